@@ -34,3 +34,6 @@ pub mod Loads
 pub mod Told
 pub mod Loose
 pub mod Sight
+pub mod Freed
+pub mod Others
+pub mod Taken

@@ -7,6 +7,7 @@ pub mod Loading
 pub mod Meeting
 pub mod Missing
 pub mod Reached
+pub mod Removing
 pub mod Soundness
 pub mod Splitting
 pub mod Sight

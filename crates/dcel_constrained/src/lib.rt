@@ -14,6 +14,7 @@ mod insert;
 mod load;
 mod locate;
 mod mesh;
+mod remove;
 mod segments;
 mod triangulation;
 

@@ -13,8 +13,9 @@ use std::alloc::{Allocator, Global};
 /// It begins as a Delaunay triangulation in which none is
 /// ([`from_triangulation`](Self::from_triangulation)). [`add_constraint`](Self::add_constraint)
 /// makes the segment between two vertices one of marked edges, [`insert`](Self::insert) puts in a
-/// point, and [`remove_constraint_edge`](Self::remove_constraint_edge) frees an edge. Vertices stay
-/// where they are.
+/// point, [`remove`](Self::remove) takes a vertex out, and
+/// [`remove_constraint_edge`](Self::remove_constraint_edge) frees an edge. Points stay where they
+/// are.
 ///
 /// Its mesh ([`dcel`](Self::dcel)) is a triangulation of the points, and Delaunay but for the marked
 /// edges, if it is whole ([`is_whole`](Self::is_whole)). One that is not whole, as memory ran out

@@ -1,15 +1,15 @@
 -- A corner of the hull cut off: what is left.
-use Rattle.std.proofs.Common.{◌≡◌, ◌⊎◌, inl, inr, ℕ, suc, ◌+◌, ◌-◌, ◌*◌, ◌/◌, ◌<◌, ◌≤◌, true, List, [], ◌∷◌, ◌++◌, length, Result, Ok, Err, IfOk, OnErr, OnOk, append_assoc, refl, sym, ap, ◌∙◌, subst, eq-zero-or-pos, arith}
+use Rattle.std.proofs.Common.{◌≡◌, ◌⊎◌, inl, inr, ℕ, suc, ◌+◌, ◌-◌, ◌*◌, ◌/◌, ◌<◌, ◌≤◌, Bool, true, List, [], ◌∷◌, ◌++◌, length, Result, Ok, Err, IfOk, OnErr, OnOk, append_assoc, refl, sym, ap, ◌∙◌, subst, eq-zero-or-pos, arith}
 use Rattle.std.proofs.lemmas.Bool.{cases_lt}
 use Rattle.std.proofs.lemmas.List.{length-reverse}
 use Rattle.spade_dcel.specs.declared.operations.results.IsolateVertexResult.{IsolateVertexResult}
 use Rattle.spade_dcel.specs.Opened.{HasOpened}
 use Rattle.dcel_maps.specs.Conditions.{CanFlip}
 use Rattle.dcel_maps.specs.edits.Flip.{GoesRound, edge_flipped, flips}
-use Rattle.dcel_maps.specs.edits.Strip.{strip_cut, strip_edges, strip_faces}
-use Rattle.dcel_maps.specs.Removals.{Closed, IsListed, Removal, ascending, gives_up_face}
+use Rattle.dcel_maps.specs.edits.Strip.{strip_cut, strip_edges, strip_faces, strip_record}
+use Rattle.dcel_maps.specs.Removals.{Closed, IsListed, Removal, ascending, gives_up_edge, gives_up_face}
 use Rattle.dcel_maps.specs.Renumbering.{cleaned_up, faces_down}
-use Rattle.dcel_maps.specs.Shapes.{IsLive, IsMesh, Mesh, Shape, end_of, face_count, face_is_live, face_of, map_of, origin_of}
+use Rattle.dcel_maps.specs.Shapes.{IsLive, IsMesh, Mesh, Shape, end_of, face_count, face_is_live, face_of, map_of, origin_of, prev_of}
 use Rattle.dcel_maps.specs.Strips.{IsEdgeStrip, IsStripAround, strip_of}
 use Rattle.dcel_maps.specs.Triangulations.{AllTriangles}
 use Rattle.dcel_maps.specs.Walking.{IsOutEdge, ccw_of, walk_of}
@@ -17,17 +17,22 @@ use Rattle.dcel_maps.specs.Words.{word_of}
 use Rattle.dcel_maps.proofs.edits.Flips.{flipped_mesh}
 use Rattle.dcel_maps.proofs.edits.FourFlips.{four_flips}
 use Rattle.dcel_maps.proofs.Liveness.{is_live-from}
+use Rattle.dcel_maps.proofs.maps.Soundness.{rev_live}
+use Rattle.dcel_maps.proofs.removal.StripItems.{strip-is, strip_gives}
+use Rattle.dcel_maps.proofs.removal.StripShapes.{GivesUpStrip}
 use Rattle.dcel_maps.proofs.renumbering.Cleanup.{cleaned_up-mesh}
 use Rattle.dcel_maps.proofs.shapes.Maps.{word_cases}
+use Rattle.dcel_maps.proofs.Shown.{slice_index-shown_live}
 use Rattle.dcel_maps.proofs.Triangulations.{flipped, strip_off}
-use Rattle.dcel_maps.proofs.walks.Links.{links_stand}
+use Rattle.dcel_maps.proofs.walks.Links.{links_stand, prev-live}
 use Rattle.dcel_maps.proofs.words.Counts.{count-append}
 use Rattle.dcel_maps.proofs.words.Reading.{face_in_word, live_in}
 use Rattle.dcel_predicates.specs.declared.point.Point.{Point}
 use Rattle.dcel_legalize.specs.Flipping.{sides_beside}
-use Rattle.dcel_plane.specs.Plane.{ListsCircled, TrianglesTurnLeft, point_at}
+use Rattle.dcel_plane.specs.Plane.{TrianglesTurnLeft, point_at}
 use Rattle.dcel_plane.specs.covering.Covering.{IsConvex, IsHull}
 use Rattle.dcel_plane.proofs.covering.Starts.{inner_half}
+use Rattle.dcel_plane.proofs.covering.Triangles.{ends_before}
 use Rattle.dcel_plane.proofs.hull.Keeping.{flip_keeps_convex, flip_keeps_hull}
 use Rattle.dcel_plane.specs.removal.Wheels.{CanFlipInPlane, IsFlattened, IsHollow, LiesOnHull, turns}
 use Rattle.dcel_plane.proofs.removal.Cleaned.{cleaned_is}
@@ -35,10 +40,13 @@ use Rattle.dcel_plane.proofs.removal.Flattened as flattening
 use Rattle.dcel_plane.proofs.removal.Renumbering.{cleanup_inner, cleanup_was_inner}
 use Rattle.dcel_plane.proofs.removal.Stripping.{corner_hollow, corner_lies, corner_strip, strip_given_up}
 use Rattle.dcel_plane.proofs.removal.Strips.{cut_lists, cut_plane, cut_plane_but, flat_corner_convex, flat_corner_hull, hollow_convex, hollow_outline, hollow_strung}
-use Rattle.dcel_planar.specs.Growing.{HasHull, IsDelaunayBut}
+use Rattle.dcel_planar.specs.Growing.{HasHull}
+use Rattle.dcel_planar.specs.Legalization.{HasToStay, ListsLoose}
+use Rattle.dcel_planar.proofs.Staying.{listed_stays, staying, to_circled}
 use Rattle.dcel_delaunay.specs.Removing.{HasOutline, IsHullCorner, CutsOff, IsGivenUp, IsStrung, LiesFlat}
 use Rattle.dcel_planar.proofs.Counting.{flipped_joined, live_vertices}
-use Rattle.dcel_delaunay.proofs.Thinned.{flip_listed}
+use Rattle.dcel_delaunay.specs.Staying.{HasLooseEdges, IsLegalBut, KeepsStaying}
+use Rattle.dcel_delaunay.proofs.Staying.{LosesSpokes, flip_listed, flip_staying, of_circled, spokes_staying, stay_below}
 
 -- the counts of Euler's formula, with one face less than edges given up
 counts : (v e f vn en fn a b : ℕ) → v + f ≡ e + 2 → vn ≡ v → en ≡ e → fn ≡ f → a ≡ b + 1 → v + fn + a ≡ en + b + 3
@@ -48,10 +56,22 @@ abbrev Named : {A : Type 0} → Removal → IsolateVertexResult A → Type 0
 Named r out = IsListed r out.edges_to_remove.items out.faces_to_remove.items
 
 module _ {DE UE F : Type 0} where
+  -- the record of a strip
+  strip_is : (m : Mesh Point DE UE F) (mesh : IsMesh m) (h v : ℕ) (around : IsStripAround m.shape v h) → GivesUpStrip m.shape v (strip_record m.shape (strip_of m.shape h))
+  strip_is m mesh h v around =
+      subst (λ (l : List ℕ). GivesUpStrip m.shape v (strip_record m.shape l)) (sym (strip-is m.shape mesh.sound mesh.sphere v h around))
+      (strip_gives m.shape mesh.sound mesh.sphere v h around)
+
+  cut_loose : (stays : UE → Bool) (m : Mesh Point DE UE F) (mesh : IsMesh m) (closed : m.shape.removal ≡ Closed) (list : List ℕ) (strip : IsEdgeStrip m.shape list) (due : List ℕ)
+      → ListsLoose stays m due → ListsLoose stays (strip_cut m list) due
+  cut_loose stays m mesh closed list strip due lists =
+      of_circled stays (strip_cut m list) due (staying stays m) (λ u there. listed_stays stays m u there)
+      (cut_lists m mesh closed list strip (point_at m) (due ++ staying stays m) (to_circled stays m due lists))
+
   -- what is given up with the strip of v, of a mesh with Euler's count
   module _ (m : Mesh Point DE UE F) (mesh : IsMesh m) (closed : m.shape.removal ≡ Closed) (triangles : AllTriangles m.shape)
       (euler : m.shape.vertices + face_count m.shape ≡ m.shape.edges + 2) (v h : ℕ) (around : IsStripAround m.shape v h)
-      (after : IsMesh (strip_cut m (strip_of m.shape h))) (due : List ℕ) where
+      (after : IsMesh (strip_cut m (strip_of m.shape h))) (due : List ℕ) (stays : UE → Bool) where
     abbrev n : Mesh Point DE UE F
     n = strip_cut m (strip_of m.shape h)
 
@@ -64,8 +84,21 @@ module _ {DE UE F : Type 0} where
     abbrev fs : List ℕ
     fs = strip_faces m.shape (strip_of m.shape h)
 
-    given_up : {A : Type 0} (out : IsolateVertexResult A) → HasOpened us fs [] 0 out → TrianglesTurnLeft (point_at m) n.shape → ListsCircled (point_at m) n.shape due → HasOutline n ⊎ IsStrung n
-        → IsGivenUp m n v due out
+    -- only edges of v are given up
+    spokes : LosesSpokes stays m n v
+    spokes =
+        let cut = strip_is m mesh h v around in
+        record {
+          closed = closed;
+          given = λ u gone. (cut.edges u).0 gone;
+          more = omega arith;
+          starts = λ g below kept. slice_index-shown_live (gives_up_edge n.shape.removal) m.shape.origins g kept;
+          same = λ u below. refl;
+          fresh = λ u past stay. stay_below stays m mesh u past stay;
+        }
+
+    given_up : {A : Type 0} (out : IsolateVertexResult A) → HasOpened us fs [] 0 out → TrianglesTurnLeft (point_at m) n.shape → ListsLoose stays n due → HasOutline n ⊎ IsStrung n
+        → IsGivenUp stays m n v due out
     given_up out has plane lists left =
         let given = strip_given_up m mesh (strip_of m.shape h) strip in
         record {
@@ -83,12 +116,13 @@ module _ {DE UE F : Type 0} where
           plane = plane;
           listed = lists;
           left = left;
+          staying = spokes_staying stays m n v spokes;
         }
 
   -- the same of a mesh that had these vertices before an edge was flipped
-  of_old : {A : Type 0} (old m n : Mesh Point DE UE F) (v : ℕ) (due : List ℕ) (out : IsolateVertexResult A) → m.shape.vertices ≡ old.shape.vertices
-      → m.vertex_data ≡ old.vertex_data → IsGivenUp m n v due out → IsGivenUp old n v due out
-  of_old old m n v due out vertices points given = record {
+  of_old : {A : Type 0} (stays : UE → Bool) (old m n : Mesh Point DE UE F) (v : ℕ) (due : List ℕ) (out : IsolateVertexResult A) → m.shape.vertices ≡ old.shape.vertices
+      → m.vertex_data ≡ old.vertex_data → KeepsStaying stays old m → IsGivenUp stays m n v due out → IsGivenUp stays old n v due out
+  of_old stays old m n v due out vertices points keeps given = record {
     mesh = given.mesh;
     vertices = given.vertices ∙ vertices;
     points = given.points ∙ points;
@@ -101,6 +135,10 @@ module _ {DE UE F : Type 0} where
     plane = given.plane;
     listed = given.listed;
     left = given.left;
+    staying = λ a b not_a not_b. (
+      λ was. (given.staying a b not_a not_b).0 ((keeps a b).0 was),
+      λ is. (keeps a b).1 ((given.staying a b not_a not_b).1 is),
+    );
   }
 
   -- where no face is given up, the first inner one has a half edge
@@ -123,18 +161,25 @@ module _ {DE UE F : Type 0} where
     of_old_shape P holds = subst P (sym but_anchors) holds
 
     -- whatever more is listed
-    pub round_sound : (due items more : List ℕ) → items ≡ due ++ more → IsDelaunayBut m due → IsDelaunayBut new items
-    round_sound due items more listed sound =
-        subst (λ (l : List ℕ). IsDelaunayBut new l) (sym listed)
-        (of_old_shape (λ k. IsDelaunayBut k (due ++ more)) (record {
+    pub round_sound : (stays : UE → Bool) (due items more : List ℕ) → items ≡ due ++ more → IsLegalBut stays m due → IsLegalBut stays new items
+    round_sound stays due items more listed sound =
+        subst (λ (l : List ℕ). IsLegalBut stays new l) (sym listed)
+        (of_old_shape (λ k. IsLegalBut stays k (due ++ more)) (record {
           triangulated = record { closed = sound.closed; joined = sound.joined; triangles = sound.triangles; plane = sound.plane };
-          listed = λ w inner circled. (let found = sound.listed w inner circled in let c = count-append w due more in omega (arith, found, c));
+          listed = λ w is.
+              (let found = sound.listed w (record { inner = is.inner; circled = is.circled; loose = is.loose }) in let c = count-append w due more in omega (arith, found, c));
         }))
+
+    pub round_staying : (stays : UE → Bool) → KeepsStaying stays m new
+    round_staying stays = of_old_shape (λ k. KeepsStaying stays m k) (λ a b. (
+      λ was. (was.0, record { live = was.1.live; start = was.1.start; end = was.1.end }, was.2),
+      λ is. (is.0, record { live = is.1.live; start = is.1.start; end = is.1.end }, is.2),
+    ))
 
     pub round_hull : HasHull m → HasHull new
     round_hull has = of_old_shape (λ k. HasHull k) (record { inner = has.inner; convex = has.convex; hull = has.hull })
 
-  module _ (m : Mesh Point DE UE F) (mesh : IsMesh m) (due : List ℕ) (sound : IsDelaunayBut m due) (v h : ℕ) (corner : IsHullCorner m v h) where
+  module _ (stays : UE → Bool) (m : Mesh Point DE UE F) (mesh : IsMesh m) (due : List ℕ) (sound : IsLegalBut stays m due) (v h : ℕ) (corner : IsHullCorner m v h) where
     abbrev s : Shape
     s = m.shape
 
@@ -200,15 +245,15 @@ module _ {DE UE F : Type 0} where
           ]
 
       hollow_given : {A : Type 0} (out : IsolateVertexResult A) → HasOpened (strip_edges m.shape (strip_of m.shape h)) (strip_faces m.shape (strip_of m.shape h)) [] 0 out
-          → IsGivenUp m (strip_cut m (strip_of m.shape h)) v due out
+          → IsGivenUp stays m (strip_cut m (strip_of m.shape h)) v due out
       hollow_given out has =
-          given_up m mesh sound.closed sound.triangles (sound.joined.euler (live_vertices m mesh h corner.outside.live)) v h corner_around after due out has
-          (cut_plane m mesh sound.closed list own (point_at m) sound.plane) (cut_lists m mesh sound.closed list own (point_at m) due sound.listed) left
+          given_up m mesh sound.closed sound.triangles (sound.joined.euler (live_vertices m mesh h corner.outside.live)) v h corner_around after due stays out has
+          (cut_plane m mesh sound.closed list own (point_at m) sound.plane) (cut_loose stays m mesh sound.closed list own due sound.listed) left
 
     -- the same of the call
-    pub hollow_gone : {A : Type 0} (new : Mesh Point DE UE F) (out : IsolateVertexResult A) → ¬ LiesFlat m h → CutsOff m new h out → IsGivenUp m new v due out
+    pub hollow_gone : {A : Type 0} (new : Mesh Point DE UE F) (out : IsolateVertexResult A) → ¬ LiesFlat m h → CutsOff m new h out → IsGivenUp stays m new v due out
     hollow_gone new out turn cut =
-        subst (λ (k : Mesh Point DE UE F). IsGivenUp m k v due out) (sym cut.is)
+        subst (λ (k : Mesh Point DE UE F). IsGivenUp stays m k v due out) (sym cut.is)
         (hollow_given turn (subst (λ (k : Mesh Point DE UE F). IsMesh k) cut.is cut.mesh) out cut.answer)
 
     -- a corner between its neighbors, by a flip
@@ -281,25 +326,36 @@ module _ {DE UE F : Type 0} where
             left_of n f d k e w c is down one edges two many same = omega (arith, is, down, one, edges, two, many, same)
 
         flat_given : {A : Type 0} (out : IsolateVertexResult A) → HasOpened (strip_edges turned.shape rest) (strip_faces turned.shape rest) [] 0 out
-            → IsGivenUp turned cut_after v ((due ++ u ∷ []) ++ sides_beside m.shape u) out
+            → IsGivenUp stays turned cut_after v ((due ++ u ∷ []) ++ sides_beside m.shape u) out
         flat_given out has =
             given_up turned mesh_after sound.closed triangles_after ((flipped_joined m u sound.joined).euler (live_vertices m mesh h corner.outside.live)) v h flattened.around after
-            ((due ++ u ∷ []) ++ sides_beside m.shape u) out has
+            ((due ++ u ∷ []) ++ sides_beside m.shape u) stays out has
             (cut_plane_but turned mesh_after sound.closed rest own_after (point_at m) flattened.but)
-            (cut_lists turned mesh_after sound.closed rest own_after (point_at m) ((due ++ u ∷ []) ++ sides_beside m.shape u) (flip_listed m mesh u can_flip due sound.listed))
+            (cut_loose stays turned mesh_after sound.closed rest own_after ((due ++ u ∷ []) ++ sides_beside m.shape u) (flip_listed stays m mesh u can_flip due sound.listed))
             (inl (record {
               inner = more;
               convex = flat_corner_convex turned mesh_after sound.closed rest own_after (point_at m) triangles_after convex_after hull_after flattened.two flattened.flat;
               hull = flat_corner_hull turned mesh_after sound.closed rest own_after (point_at m) triangles_after convex_after hull_after flattened.two flattened.flat;
             }))
 
-      pub flat_gone : {A : Type 0} (mid new : Mesh Point DE UE F) (out : IsolateVertexResult A) (items : List ℕ) → mid ≡ edge_flipped m (turns (ccw_of m.shape) 2 h / 2)
-          → items ≡ (due ++ (turns (ccw_of m.shape) 2 h / 2) ∷ []) ++ sides_beside m.shape (turns (ccw_of m.shape) 2 h / 2) → CutsOff mid new h out → IsGivenUp m new v items out
-      flat_gone mid new out items is listed cut_mid =
+      -- the flipped edge is one of v
+      loose_u : HasLooseEdges stays m v → ¬ HasToStay stays m (turns (ccw_of m.shape) 2 h / 2)
+      loose_u loose =
+          let live = corner.outside.live in
+          let next = ccw_of m.shape h in
+          let once = rev_live (map_of m.shape) (prev_of m.shape h) (prev-live mesh.sound h live) in
+          loose (turns (ccw_of m.shape) 2 h) (record {
+            live = rev_live (map_of m.shape) (prev_of m.shape next) (prev-live mesh.sound next once);
+            start = ends_before m mesh next once ∙ ends_before m mesh h live ∙ start;
+          })
+
+      pub flat_gone : {A : Type 0} → HasLooseEdges stays m v → (mid new : Mesh Point DE UE F) (out : IsolateVertexResult A) (items : List ℕ) → mid ≡ edge_flipped m (turns (ccw_of m.shape) 2 h / 2)
+          → items ≡ (due ++ (turns (ccw_of m.shape) 2 h / 2) ∷ []) ++ sides_beside m.shape (turns (ccw_of m.shape) 2 h / 2) → CutsOff mid new h out → IsGivenUp stays m new v items out
+      flat_gone loose mid new out items is listed cut_mid =
           let cut_turned : CutsOff turned new h out = subst (λ (k : Mesh Point DE UE F). CutsOff k new h out) is cut_mid in
-          subst (λ (l : List ℕ). IsGivenUp m new v l out) (sym listed)
-          (of_old m turned new v ((due ++ u ∷ []) ++ sides_beside m.shape u) out refl refl
-          (subst (λ (k : Mesh Point DE UE F). IsGivenUp turned k v ((due ++ u ∷ []) ++ sides_beside m.shape u) out) (sym cut_turned.is)
+          subst (λ (l : List ℕ). IsGivenUp stays m new v l out) (sym listed)
+          (of_old stays m turned new v ((due ++ u ∷ []) ++ sides_beside m.shape u) out refl refl (flip_staying stays m u (loose_u loose))
+          (subst (λ (k : Mesh Point DE UE F). IsGivenUp stays turned k v ((due ++ u ∷ []) ++ sides_beside m.shape u) out) (sym cut_turned.is)
           (flat_given (subst (λ (k : Mesh Point DE UE F). IsMesh k) cut_turned.is cut_turned.mesh) out cut_turned.answer)))
 
       -- the flip, as the calls make it
@@ -310,10 +366,10 @@ module _ {DE UE F : Type 0} where
         pub mid_around : IsStripAround mid.shape v h
         mid_around = subst (λ (k : Mesh Point DE UE F). IsStripAround k.shape v h) (sym at_mid) flattened.around
 
-        pub mid_gone : {A : Type 0} (new : Mesh Point DE UE F) (out : IsolateVertexResult A) (items : List ℕ) → items ≡ (due ++ edge ∷ []) ++ sides_beside m.shape edge
-            → CutsOff mid new h out → IsGivenUp m new v items out
-        mid_gone new out items listed =
-            flat_gone mid new out items at_mid (listed ∙ ap (λ (k : ℕ). (due ++ k ∷ []) ++ sides_beside m.shape k) is_edge)
+        pub mid_gone : {A : Type 0} → HasLooseEdges stays m v → (new : Mesh Point DE UE F) (out : IsolateVertexResult A) (items : List ℕ) → items ≡ (due ++ edge ∷ []) ++ sides_beside m.shape edge
+            → CutsOff mid new h out → IsGivenUp stays m new v items out
+        mid_gone loose new out items listed =
+            flat_gone loose mid new out items at_mid (listed ∙ ap (λ (k : ℕ). (due ++ k ∷ []) ++ sides_beside m.shape k) is_edge)
 
         -- and back
         module _ (k : Mesh Point DE UE F) (same_mid : k ≡ mid) where
@@ -335,9 +391,12 @@ module _ {DE UE F : Type 0} where
             all_four : new ≡ flips 4 m (turns (ccw_of m.shape) 2 h / 2)
             all_four = back ∙ ap (λ (n : Mesh Point DE UE F). flips 3 n edge) (same_mid ∙ at_mid) ∙ ap (λ (j : ℕ). flips 3 turned j) is_edge
 
-            pub back_sound : (items : List ℕ) → items ≡ (due ++ edge ∷ []) ++ sides_beside m.shape edge → IsDelaunayBut new items
+            pub back_sound : (items : List ℕ) → items ≡ (due ++ edge ∷ []) ++ sides_beside m.shape edge → IsLegalBut stays new items
             back_sound items listed =
-                round_sound m new u goes_round all_four due items ((edge ∷ []) ++ sides_beside m.shape edge) (listed ∙ simp append_assoc) sound
+                round_sound m new u goes_round all_four stays due items ((edge ∷ []) ++ sides_beside m.shape edge) (listed ∙ simp append_assoc) sound
+
+            pub back_staying : KeepsStaying stays m new
+            back_staying = round_staying m new u goes_round all_four stays
 
             pub back_hull : HasHull new
             back_hull = round_hull m new u goes_round all_four corner.hull
@@ -353,9 +412,9 @@ module _ {DE UE F A E : Type 0} where
   }
   cut_from (Err e) old new h items is mesh edit answer = tt
 
-  module _ (m : Mesh Point DE UE F) (mesh : IsMesh m) (due : List ℕ) (sound : IsDelaunayBut m due) (v h : ℕ) (corner : IsHullCorner m v h) where
-    pub cut_given : (r : Result (IsolateVertexResult A) E) (new : Mesh Point DE UE F) → ¬ LiesFlat m h → IfOk r (CutsOff m new h) → IfOk r (IsGivenUp m new v due)
-    cut_given (Ok out) new turn given = hollow_gone m mesh due sound v h corner new out turn given
+  module _ (stays : UE → Bool) (m : Mesh Point DE UE F) (mesh : IsMesh m) (due : List ℕ) (sound : IsLegalBut stays m due) (v h : ℕ) (corner : IsHullCorner m v h) where
+    pub cut_given : (r : Result (IsolateVertexResult A) E) (new : Mesh Point DE UE F) → ¬ LiesFlat m h → IfOk r (CutsOff m new h) → IfOk r (IsGivenUp stays m new v due)
+    cut_given (Ok out) new turn given = hollow_gone stays m mesh due sound v h corner new out turn given
     cut_given (Err e) new turn given = tt
 
   pub not_cut : (P : Mesh Point DE UE F → Type 0) (r : Result (IsolateVertexResult A) E) (m new : Mesh Point DE UE F) → OnErr r (new ≡ m) → P m → OnErr r (P new)

@@ -1,30 +1,36 @@
 -- A vertex inside of triangles given up, and the hole filled: what is left.
-use Rattle.std.proofs.Common.{◌≡◌, ◌≢◌, inl, inr, ℕ, ◌+◌, ◌/◌, ◌<◌, ◌≤◌, List, ◌++◌, length, reverse, slice_index_or, append_assoc, refl, sym, ap, ◌∙◌, subst, arith}
-use Rattle.std.proofs.lemmas.List.{length-map}
-use Rattle.std.proofs.lemmas.Bool.{cases_eq}
+use Rattle.std.proofs.Common.{◌≡◌, ◌≢◌, inl, inr, ℕ, ◌+◌, ◌/◌, ◌<◌, ◌≤◌, Bool, List, ◌∷◌, ◌++◌, All, Option, length, reverse, slice_get, slice_index_or, append_assoc, refl, sym, ap, ◌∙◌, subst, arith}
+use Rattle.std.specs.Option.{option_map}
+use Rattle.std.proofs.lemmas.Bool.{cases_eq, cases_lt}
+use Rattle.std.proofs.lemmas.List.{get_or_append_left, length-map, length-reverse}
 use Rattle.spade_dcel.specs.declared.operations.results.IsolateVertexResult.{IsolateVertexResult}
 use Rattle.spade_dcel.specs.Opened.{HasFilled}
 use Rattle.dcel_maps.specs.Conditions.{IsTriangle}
-use Rattle.dcel_maps.specs.edits.Fill.{FillsHole, edges_at, faces_at, hole_filled}
-use Rattle.dcel_maps.specs.Removals.{IsListed, Removal, ascending, opened}
+use Rattle.dcel_maps.specs.edits.Fill.{FillsHole, edges_at, faces_at, hole_filled, loop_filled}
+use Rattle.dcel_maps.specs.Removals.{IsListed, Removal, ascending, gives_up_edge, opened, shown}
 use Rattle.dcel_maps.specs.Shapes.{IsLive, IsMesh, Mesh, face_count, face_of}
 use Rattle.dcel_maps.specs.Triangulations.{AllTriangles}
 use Rattle.dcel_maps.specs.Walking.{out_edges_of}
 use Rattle.dcel_maps.specs.Words.{count_of}
+use Rattle.dcel_maps.proofs.removal.RingLists.{at_border}
 use Rattle.dcel_maps.proofs.renumbering.Cleanup.{cleaned_up-mesh}
 use Rattle.dcel_maps.proofs.shapes.Maps.{map-sound}
+use Rattle.dcel_maps.proofs.Shown.{length-shown, slice_index-shown_live}
 use Rattle.dcel_maps.proofs.Triangulations.{ring_filled_in}
 use Rattle.dcel_maps.proofs.words.Ascending.{length-ascending}
 use Rattle.dcel_maps.proofs.words.Counts.{count-append}
 use Rattle.dcel_predicates.specs.declared.point.Point.{Point}
 use Rattle.dcel_plane.specs.Edges.{edges_inserted}
-use Rattle.dcel_plane.specs.Plane.{ListsCircled, TrianglesTurnLeft, origin_point, point_at}
+use Rattle.dcel_plane.specs.Plane.{IsCircled, TrianglesTurnLeft, origin_point, point_at}
 use Rattle.dcel_plane.specs.covering.Covering.{IsConvex, IsHull}
-use Rattle.dcel_plane.proofs.removal.Deleting.{four_plane, hole_convex, hole_hull, hole_lists, three_plane}
+use Rattle.dcel_plane.proofs.removal.Deleting.{by_three, four_plane, hole_convex, hole_hull, hole_lists, three_plane}
 use Rattle.dcel_plane.proofs.removal.Renumbering.{cleanup_inner}
 use Rattle.dcel_plane.proofs.removal.Holes.{IsHole, half_of_triangle, hole_is, side_listed}
-use Rattle.dcel_planar.specs.Growing.{IsDelaunayBut}
+use Rattle.dcel_planar.specs.Legalization.{HasToStay, ListsLoose}
+use Rattle.dcel_planar.proofs.Staying.{listed_stays, staying, to_circled}
 use Rattle.dcel_delaunay.specs.Removing.{IsFilled, IsGivenUp, IsThinnedOut}
+use Rattle.dcel_delaunay.specs.Staying.{DefaultIsLoose, IsLegalBut}
+use Rattle.dcel_delaunay.proofs.Staying.{LosesSpokes, loose_after, same_before, spokes_staying, stay_below}
 
 -- the counts of Euler's formula, with k edges and k faces round the vertex
 counts : (v e f vn en fn k a b : ℕ) → v + f ≡ e + 2 → vn ≡ v → en + 3 ≡ e + k → fn + 2 ≡ f + k → a ≡ b → v + fn + a ≡ en + b + 3
@@ -46,10 +52,17 @@ module _ {DE UE F : Type 0} where
   pub at_points : (P : (ℕ → Point) → Type 0) (m n : Mesh Point DE UE F) → n.vertex_data ≡ m.vertex_data → P (point_at m) → P (point_at n)
   at_points P m n same holds = subst (λ (points : List Point). P (λ v. slice_index_or points v origin_point)) (sym same) holds
 
-  module _ (m : Mesh Point DE UE F) (mesh : IsMesh m) (due : List ℕ) (sound : IsDelaunayBut m due) (v : ℕ) (thin : IsThinnedOut m v) (border : List ℕ) (filled : IsFilled m v border)
+  module _ (stays : UE → Bool) (m : Mesh Point DE UE F) (mesh : IsMesh m) (due : List ℕ) (sound : IsLegalBut stays m due) (v : ℕ) (thin : IsThinnedOut m v) (border : List ℕ) (filled : IsFilled m v border)
       (halves : List DE) (edges : List UE) (faces : List F) (after : IsMesh (hole_filled m v border halves edges faces)) where
     abbrev n : Mesh Point DE UE F
     n = hole_filled m v border halves edges faces
+
+    -- the data of the edges are those of before, and others
+    same_data : (u : ℕ) → u < m.shape.edges → slice_get n.undirected_data u ≡ slice_get m.undirected_data u
+    same_data u below =
+        by_three (λ w. slice_get (loop_filled m (opened (edges_at m v) (faces_at m v) v) w halves edges faces).undirected_data u ≡ slice_get m.undirected_data u) (reverse border)
+        (let k = filled.round.many in let e = length-reverse border in omega (arith, k, e))
+        (λ p q r rest is. same_before m.undirected_data edges u (let k = mesh.sized.undirected_data in omega (arith, k, below)))
 
     hole : IsHole m n v (length border)
     hole = hole_is m mesh sound.closed border v filled.round halves edges faces (point_at m)
@@ -78,14 +91,28 @@ module _ {DE UE F : Type 0} where
         let live = hole.new_live (face_count m.shape + 1) (omega arith) (let f = hole.faces in omega (arith, f, four)) in
         record { live = live; three = triangles_after (face_count m.shape + 1) (omega arith) live }
 
+    -- edges that stay have their data
+    stays_too : (u : ℕ) → HasToStay stays m u → HasToStay stays n u
+    stays_too u stay = ap (λ (o : Option UE). option_map stays o) (same_data u (elim (cases_lt u m.shape.edges) [ inl below ↦ below | inr past ↦ absurd (stay_below stays m mesh u past stay) ])) ∙ stay
+
     -- the new faces are listed
     lists_after : (list : List ℕ) → ((f h : ℕ) → face_count m.shape ≤ f → f < face_count n.shape → IsLive n.shape h → face_of n.shape h ≡ f → 0 < count_of (h / 2) list)
-        → ListsCircled (point_at m) n.shape (due ++ list)
-    lists_after list each =
-        hole_lists m mesh sound.closed border v filled.round halves edges faces (point_at m) due list
-        (λ h live past. each (face_of n.shape h) h past ((map-sound after.sound).below_faces h live) live refl) sound.listed
+        → ListsLoose stays n (due ++ list)
+    lists_after list each u is =
+        let stay = staying stays m in
+        let found : 0 < count_of u ((due ++ stay) ++ list) =
+        hole_lists m mesh sound.closed border v filled.round halves edges faces (point_at m) (due ++ stay) list
+        (λ h live past. each (face_of n.shape h) h past ((map-sound after.sound).below_faces h live) live refl) (to_circled stays m due sound.listed) u is.inner
+        (at_points (λ at. IsCircled at n.shape u) n m (sym hole.points) is.circled) in
+        let all = count-append u (due ++ stay) list in
+        let both = count-append u due stay in
+        let wanted = count-append u due list in
+        elim (cases_lt 0 (count_of u stay)) [
+          | inl there ↦ absurd (is.loose (stays_too u (listed_stays stays m u there)))
+          | inr none ↦ omega (arith, found, all, both, wanted, none)
+        ]
 
-    three_listed : length border ≡ 3 → ListsCircled (point_at m) n.shape (due ++ edges_inserted n (face_count m.shape))
+    three_listed : length border ≡ 3 → ListsLoose stays n (due ++ edges_inserted n (face_count m.shape))
     three_listed three =
         lists_after (edges_inserted n (face_count m.shape)) (λ f h past below live on.
         let counted = hole.faces in
@@ -93,7 +120,7 @@ module _ {DE UE F : Type 0} where
         side_listed n after (face_count m.shape) first_new h live (on ∙ is))
 
     four_listed : length border ≡ 4
-        → ListsCircled (point_at m) n.shape (due ++ (edges_inserted n (face_count m.shape) ++ edges_inserted n (face_count m.shape + 1)))
+        → ListsLoose stays n (due ++ (edges_inserted n (face_count m.shape) ++ edges_inserted n (face_count m.shape + 1)))
     four_listed four =
         let near = edges_inserted n (face_count m.shape) in
         let far = edges_inserted n (face_count m.shape + 1) in
@@ -107,8 +134,8 @@ module _ {DE UE F : Type 0} where
         ])
 
     given_up : {A : Type 0} (list : List ℕ) (out : IsolateVertexResult A) → HasFilled m.shape border (edges_at m v) (faces_at m v) out
-        → ListsCircled (point_at m) n.shape list → IsGivenUp m n v list out
-    given_up list out has lists =
+        → ListsLoose stays n list → LosesSpokes stays m n v → IsGivenUp stays m n v list out
+    given_up list out has lists spokes =
         let some = thin.below in
         let (h, live, on) = half_of_triangle n after (face_count m.shape) first_new in
         let outer = mesh.sized.outer in
@@ -127,16 +154,40 @@ module _ {DE UE F : Type 0} where
               ∙ sym (length-ascending (faces_at m v)));
           triangles = triangles_after;
           plane = at_points (λ at. TrianglesTurnLeft at n.shape) m n hole.points plane_before;
-          listed = at_points (λ at. ListsCircled at n.shape list) m n hole.points lists;
+          listed = lists;
           left = inl (record {
             inner = cleanup_inner n after (cleaned_up-mesh n after) h live (let o = on in omega (arith, o, outer));
             convex = at_points (λ at. IsConvex at n.shape) m n hole.points (hole_convex m mesh sound.closed border v filled.round halves edges faces (point_at m) thin.hull.convex);
             hull = at_points (λ at. IsHull at n.shape) m n hole.points (hole_hull m mesh sound.closed border v filled.round halves edges faces (point_at m) thin.hull.hull);
           });
+          staying = spokes_staying stays m n v spokes;
         }
 
+    abbrev given : Removal
+    given = opened (edges_at m v) (faces_at m v) v
+
+    long : 3 ≤ length (reverse border)
+    long = (let k = many in let e = length-reverse border in omega (arith, k, e))
+
+    -- only edges of v are given up
+    given_spokes : (is_edge : UE → Type 0) → DefaultIsLoose is_edge stays → All is_edge edges → LosesSpokes stays m (hole_filled m v border halves edges faces) v
+    given_spokes is_edge default all =
+        by_three (λ w. LosesSpokes stays m (loop_filled m (opened (edges_at m v) (faces_at m v) v) w halves edges faces) v) (reverse border) long (λ p q r rest is. record {
+          closed = sound.closed;
+          given = λ u gone. ((at_border m mesh border v filled.round).edges u).0 gone;
+          more = omega arith;
+          starts = λ h below kept.
+              get_or_append_left (shown (gives_up_edge given) m.shape.origins) _ 0 h
+              (let l = length-shown (gives_up_edge given) m.shape.origins in let k = mesh.sized.origins in omega (arith, l, k, below))
+              ∙ slice_index-shown_live (gives_up_edge given) m.shape.origins h kept;
+          same = λ u below. same_before m.undirected_data edges u (let k = mesh.sized.undirected_data in omega (arith, k, below));
+          fresh = λ u past.
+              loose_after stays is_edge default (loop_filled m given (p ∷ q ∷ r ∷ rest) halves edges faces) m.undirected_data edges refl all u
+              (let k = mesh.sized.undirected_data in omega (arith, k, past));
+        })
+
   -- the same of the calls, whatever data are put at the new edge and the new faces
-  module _ (is_half : DE → Type 0) (is_edge : UE → Type 0) (is_face : F → Type 0) (m new : Mesh Point DE UE F) (mesh : IsMesh m) (due : List ℕ) (sound : IsDelaunayBut m due) (v : ℕ)
+  module _ (stays : UE → Bool) (is_half : DE → Type 0) (is_edge : UE → Type 0) (is_face : F → Type 0) (m new : Mesh Point DE UE F) (mesh : IsMesh m) (due : List ℕ) (sound : IsLegalBut stays m due) (v : ℕ)
       (thin : IsThinnedOut m v) (border : List ℕ) (filled : IsFilled m v border) (fills : FillsHole is_half is_edge is_face border new (hole_filled m v border)) (after : IsMesh new) where
     done : IsMesh (hole_filled m v border fills.directed_data fills.undirected_data fills.face_data)
     done = subst (λ (k : Mesh Point DE UE F). IsMesh k) fills.is after
@@ -145,33 +196,37 @@ module _ {DE UE F : Type 0} where
     filled_first f is =
         subst (λ (k : Mesh Point DE UE F). IsTriangle k.shape f) (sym fills.is)
         (subst (λ (i : ℕ). IsTriangle (hole_filled m v border fills.directed_data fills.undirected_data fills.face_data).shape i) (sym is)
-        (first_new m mesh due sound v thin border filled fills.directed_data fills.undirected_data fills.face_data done))
+        (first_new stays m mesh due sound v thin border filled fills.directed_data fills.undirected_data fills.face_data done))
 
     pub filled_second : length border ≡ 4 → (f : ℕ) → f ≡ face_count m.shape + 1 → IsTriangle new.shape f
     filled_second four f is =
         subst (λ (k : Mesh Point DE UE F). IsTriangle k.shape f) (sym fills.is)
         (subst (λ (i : ℕ). IsTriangle (hole_filled m v border fills.directed_data fills.undirected_data fills.face_data).shape i) (sym is)
-        (second_new m mesh due sound v thin border filled fills.directed_data fills.undirected_data fills.face_data done four))
+        (second_new stays m mesh due sound v thin border filled fills.directed_data fills.undirected_data fills.face_data done four))
 
     three : length border ≢ 4 → length border ≡ 3
     three not = elim filled.triangles [ inl is ↦ is | inr four ↦ absurd (not four.0) ]
 
-    pub filled_three : {A : Type 0} (list : List ℕ) (out : IsolateVertexResult A) (f : ℕ) → HasFilled m.shape border (edges_at m v) (faces_at m v) out → length border ≢ 4
-        → f ≡ face_count m.shape → list ≡ due ++ edges_inserted new f → IsGivenUp m new v list out
-    filled_three list out f has not is listed =
-        subst (λ (l : List ℕ). IsGivenUp m new v l out) (sym (listed ∙ ap (λ (i : ℕ). due ++ edges_inserted new i) is))
-        (subst (λ (k : Mesh Point DE UE F). IsGivenUp m k v (due ++ edges_inserted k (face_count m.shape)) out) (sym fills.is)
-        (given_up m mesh due sound v thin border filled fills.directed_data fills.undirected_data fills.face_data done _ out has
-        (three_listed m mesh due sound v thin border filled fills.directed_data fills.undirected_data fills.face_data done (three not))))
+    spokes : DefaultIsLoose is_edge stays → LosesSpokes stays m (hole_filled m v border fills.directed_data fills.undirected_data fills.face_data) v
+    spokes default =
+        given_spokes stays m mesh due sound v thin border filled fills.directed_data fills.undirected_data fills.face_data done is_edge default fills.undirected_default
 
-    pub filled_four : {A : Type 0} (list : List ℕ) (out : IsolateVertexResult A) (f g : ℕ) → HasFilled m.shape border (edges_at m v) (faces_at m v) out → length border ≡ 4
-        → f ≡ face_count m.shape → g ≡ face_count m.shape + 1 → list ≡ (due ++ edges_inserted new f) ++ edges_inserted new g → IsGivenUp m new v list out
-    filled_four list out f g has four is is_next listed =
+    pub filled_three : {A : Type 0} → DefaultIsLoose is_edge stays → (list : List ℕ) (out : IsolateVertexResult A) (f : ℕ) → HasFilled m.shape border (edges_at m v) (faces_at m v) out → length border ≢ 4
+        → f ≡ face_count m.shape → list ≡ due ++ edges_inserted new f → IsGivenUp stays m new v list out
+    filled_three default list out f has not is listed =
+        subst (λ (l : List ℕ). IsGivenUp stays m new v l out) (sym (listed ∙ ap (λ (i : ℕ). due ++ edges_inserted new i) is))
+        (subst (λ (k : Mesh Point DE UE F). IsGivenUp stays m k v (due ++ edges_inserted k (face_count m.shape)) out) (sym fills.is)
+        (given_up stays m mesh due sound v thin border filled fills.directed_data fills.undirected_data fills.face_data done _ out has
+        (three_listed stays m mesh due sound v thin border filled fills.directed_data fills.undirected_data fills.face_data done (three not)) (spokes default)))
+
+    pub filled_four : {A : Type 0} → DefaultIsLoose is_edge stays → (list : List ℕ) (out : IsolateVertexResult A) (f g : ℕ) → HasFilled m.shape border (edges_at m v) (faces_at m v) out → length border ≡ 4
+        → f ≡ face_count m.shape → g ≡ face_count m.shape + 1 → list ≡ (due ++ edges_inserted new f) ++ edges_inserted new g → IsGivenUp stays m new v list out
+    filled_four default list out f g has four is is_next listed =
         let near = edges_inserted new f in
         let far = edges_inserted new g in
         let same : (due ++ near) ++ far ≡ due ++ (near ++ far) = simp append_assoc in
-        subst (λ (l : List ℕ). IsGivenUp m new v l out)
+        subst (λ (l : List ℕ). IsGivenUp stays m new v l out)
         (sym (listed ∙ same ∙ ap (λ (i : ℕ). due ++ (edges_inserted new i ++ edges_inserted new g)) is ∙ ap (λ (i : ℕ). due ++ (edges_inserted new (face_count m.shape) ++ edges_inserted new i)) is_next))
-        (subst (λ (k : Mesh Point DE UE F). IsGivenUp m k v (due ++ (edges_inserted k (face_count m.shape) ++ edges_inserted k (face_count m.shape + 1))) out) (sym fills.is)
-        (given_up m mesh due sound v thin border filled fills.directed_data fills.undirected_data fills.face_data done _ out has
-        (four_listed m mesh due sound v thin border filled fills.directed_data fills.undirected_data fills.face_data done four)))
+        (subst (λ (k : Mesh Point DE UE F). IsGivenUp stays m k v (due ++ (edges_inserted k (face_count m.shape) ++ edges_inserted k (face_count m.shape + 1))) out) (sym fills.is)
+        (given_up stays m mesh due sound v thin border filled fills.directed_data fills.undirected_data fills.face_data done _ out has
+        (four_listed stays m mesh due sound v thin border filled fills.directed_data fills.undirected_data fills.face_data done four) (spokes default)))

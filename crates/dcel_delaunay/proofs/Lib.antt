@@ -12,6 +12,7 @@ pub mod Orders
 pub mod Outline
 pub mod Renaming
 pub mod Standing
+pub mod Staying
 pub mod TakenOut
 pub mod Taking
 pub mod Telling

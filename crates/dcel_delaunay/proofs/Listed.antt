@@ -14,7 +14,7 @@ use Rattle.dcel_planar.specs.declared.position.PositionInTriangulation.{Position
 use Rattle.dcel_planar.proofs.Growth.{gains-keeps}
 use Rattle.dcel_planar.proofs.Recovered.{settled_outlined}
 
-never : {B : Type 0} (o : Option B) → option_map (λ _. false) o ≡ Some true → ⊥
+pub never : {B : Type 0} (o : Option B) → option_map (λ _. false) o ≡ Some true → ⊥
 never None is = cc
 never (Some x) is = cc
 

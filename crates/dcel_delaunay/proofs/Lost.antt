@@ -1,5 +1,5 @@
 -- A vertex removed: what a vertex inside has, and what is told of it from before edges were flipped to after.
-use Rattle.std.proofs.Common.{◌≡◌, inl, inr, ℕ, ◌-◌, ◌<◌, ◌==◌, cond, List, Option, Some, None, slice_get, slice_index_or, sym, ap, ◌∙◌, subst, eq-zero-or-pos, arith}
+use Rattle.std.proofs.Common.{◌≡◌, ◌≢◌, ◌↔◌, Bool, inl, inr, ℕ, ◌-◌, ◌<◌, ◌==◌, cond, List, Option, Some, None, slice_get, slice_index_or, sym, ap, ◌∙◌, subst, eq-zero-or-pos, arith}
 use Rattle.std.proofs.lemmas.Bool.{cases_lt}
 use Rattle.dcel_fixed.specs.HalfEdges.{rev}
 use Rattle.dcel_maps.specs.Conditions.{HasRoom}
@@ -13,15 +13,16 @@ use Rattle.dcel_predicates.specs.declared.point.Point.{Point}
 use Rattle.dcel_plane.specs.Plane.{origin_point, point_at}
 use Rattle.dcel_plane.proofs.covering.Starts.{inner_half}
 use Rattle.dcel_planar.specs.Corners.{StartsOutside}
-use Rattle.dcel_planar.specs.Growing.{HasHull, IsDelaunayBut}
+use Rattle.dcel_planar.specs.Growing.{HasHull, IsTriangleMesh}
 use Rattle.dcel_delaunay.specs.Removing.{HasNoneToTurn, IsInnerVertex, IsThinnedOut, Loses}
+use Rattle.dcel_delaunay.specs.Staying.{KeepsStaying, LosesNoneStaying, StaysBetween}
 use Rattle.dcel_delaunay.specs.declared.removed.Removed.{Removed}
 use Rattle.dcel_planar.proofs.Counting.{joined_all}
 
 module _ {DE UE F : Type 0} where
   -- where a triangle is there are two vertices
-  pub more_vertices : (m : Mesh Point DE UE F) (due : List ℕ) → IsMesh m → IsDelaunayBut m due → HasHull m → 1 < m.shape.vertices
-  more_vertices m due mesh sound has =
+  pub more_vertices : (m : Mesh Point DE UE F) → IsMesh m → IsTriangleMesh m → HasHull m → 1 < m.shape.vertices
+  more_vertices m mesh sound has =
       let (h, live, inner) = inner_half m mesh sound.closed has.inner in
       let start = (map-sound mesh.sound).below_vertices h live in
       let end = (map-sound mesh.sound).below_vertices (rev h) (rev_live (map_of m.shape) h live) in
@@ -31,22 +32,22 @@ module _ {DE UE F : Type 0} where
       ]
 
   -- so each has an edge
-  some_edge : (m : Mesh Point DE UE F) (due : List ℕ) → IsMesh m → IsDelaunayBut m due → HasHull m → (v : ℕ) → v < m.shape.vertices → (k : ℕ) × IsOutEdge m.shape v k
-  some_edge m due mesh sound has v below = by_anchor (vertex_anchor m v) (mesh.anchored.vertices v below)
+  some_edge : (m : Mesh Point DE UE F) → IsMesh m → IsTriangleMesh m → HasHull m → (v : ℕ) → v < m.shape.vertices → (k : ℕ) × IsOutEdge m.shape v k
+  some_edge m mesh sound has v below = by_anchor (vertex_anchor m v) (mesh.anchored.vertices v below)
     where
       by_anchor : (anchor : Option ℕ) → AnchorsVertex m.shape v anchor → (k : ℕ) × IsOutEdge m.shape v k
       by_anchor (Some h) anchored = (h, record { live = anchored.0; start = anchored.1 })
       by_anchor None bare = absurd
-          (joined_all m mesh sound.closed sound.joined v (more_vertices m due mesh sound has)
+          (joined_all m mesh sound.closed sound.joined v (more_vertices m mesh sound has)
           (record { live = closed-vertex_live m.shape sound.closed v below; bare = bare }))
 
-  pub thin_is : (m : Mesh Point DE UE F) (due : List ℕ) → IsMesh m → IsDelaunayBut m due → HasHull m → (v : ℕ) → v < m.shape.vertices → IsInnerVertex m.shape v → HasNoneToTurn m v → IsThinnedOut m v
-  thin_is m due mesh sound has v below inside none = record {
+  pub thin_is : (m : Mesh Point DE UE F) → IsMesh m → IsTriangleMesh m → HasHull m → (v : ℕ) → v < m.shape.vertices → IsInnerVertex m.shape v → HasNoneToTurn m v → IsThinnedOut m v
+  thin_is m mesh sound has v below inside none = record {
     below = below;
     triangles = sound.triangles;
     plane = sound.plane;
     hull = has;
-    some = some_edge m due mesh sound has v below;
+    some = some_edge m mesh sound has v below;
     inside = inside;
     none = none;
   }
@@ -62,9 +63,9 @@ module _ {DE UE F : Type 0} where
       subst (λ (k : ℕ). k < m.shape.vertices) outside.start ((map-sound mesh.sound).below_vertices h outside.live)
 
   -- as many vertices and edges have as many faces
-  pub room_still : (m n : Mesh Point DE UE F) (due list : List ℕ) → IsDelaunayBut m due → IsDelaunayBut n list → 0 < m.shape.vertices → n.shape.vertices ≡ m.shape.vertices
+  pub room_still : (m n : Mesh Point DE UE F) → IsTriangleMesh m → IsTriangleMesh n → 0 < m.shape.vertices → n.shape.vertices ≡ m.shape.vertices
       → n.shape.edges ≡ m.shape.edges → HasRoom m.shape 0 1 2 → HasRoom n.shape 0 1 2
-  room_still m n due list sound sound_n some vertices edges room =
+  room_still m n sound sound_n some vertices edges room =
       let euler = sound.joined.euler some in
       let euler_n = sound_n.joined.euler (omega (arith, some, vertices)) in
       let for_vertices = room.for_vertices in
@@ -87,3 +88,10 @@ module _ {DE UE F : Type 0} where
         ap (λ k. point_at n (moved (k - 1) v w)) (sym vertices) ∙ loses.others w (omega (arith, below, vertices)) other
         ∙ ap (λ (list : List Point). slice_index_or list w origin_point) points;
   }
+
+  -- so is what stays
+  pub lost_staying : (stays : UE → Bool) (m mid n : Mesh Point DE UE F) (v : ℕ) → mid.shape.vertices ≡ m.shape.vertices → KeepsStaying stays m mid
+      → LosesNoneStaying stays mid n v → LosesNoneStaying stays m n v
+  lost_staying stays m mid n v vertices keeps loses =
+      subst (λ (k : ℕ). (a b : ℕ) → a ≢ v → b ≢ v → StaysBetween stays m a b ↔ StaysBetween stays n (moved (k - 1) v a) (moved (k - 1) v b)) vertices
+      (λ a b not_a not_b. (λ was. (loses a b not_a not_b).0 ((keeps a b).0 was), λ is. (keeps a b).1 ((loses a b not_a not_b).1 is)))

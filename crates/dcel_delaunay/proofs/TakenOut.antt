@@ -1,15 +1,16 @@
 -- What was given up taken out, and the vertex: the mesh lies in the plane with its hull, and each other vertex stands where it stood.
-use Rattle.std.proofs.Common.{◌≡◌, ◌≢◌, ◌⊎◌, inl, inr, ℕ, ◌+◌, ◌-◌, ◌<◌, ◌≤◌, ◌==◌, true, cond, List, length, map, Some, None, slice_index_or, refl, sym, ap, ◌∙◌, subst, arith}
-use Rattle.std.proofs.lemmas.Bool.{cases_lt, ne_eqb}
-use Rattle.std.proofs.lemmas.List.{length-reverse}
+use Rattle.std.proofs.Common.{◌≡◌, ◌≢◌, ◌⊎◌, ◌↔◌, inl, inr, ℕ, ◌+◌, ◌-◌, ◌<◌, ◌≤◌, ◌==◌, Bool, true, cond, List, ◌++◌, eq-eqb, length, map, Some, None, slice_index_or, refl, sym, ap, ◌∙◌, subst, arith}
+use Rattle.std.proofs.lemmas.Bool.{cases_lt, false≢true, ne_eqb}
+use Rattle.std.proofs.lemmas.List.{length-reverse, map-append}
 use Rattle.std.proofs.lemmas.Option.{slice_get_read}
 use Rattle.spade_dcel.specs.declared.operations.results.IsolateVertexResult.{IsolateVertexResult}
 use Rattle.dcel_maps.specs.Removals.{Cleaned, gives_up_vertex}
-use Rattle.dcel_maps.specs.Renumbered.{new_edge}
+use Rattle.dcel_maps.specs.Renumbered.{new_edge, new_half}
 use Rattle.dcel_maps.specs.Renumbering.{cleaned, cleaned_up, edges_down, faces_down, moved, vertex_taken_out}
 use Rattle.dcel_maps.specs.Shapes.{IsLive, IsMesh, Mesh, face_count, face_of, vertex_is_live}
-use Rattle.dcel_maps.proofs.Liveness.{is_live-from}
-use Rattle.dcel_maps.proofs.renumbering.Renumbered.{vertex_leaves_live}
+use Rattle.dcel_maps.proofs.Liveness.{is_live-from, is_live-parts}
+use Rattle.dcel_maps.proofs.renumbering.Moves.{moved-back}
+use Rattle.dcel_maps.proofs.renumbering.Renumbered.{leaves_live, vertex_leaves_live}
 use Rattle.dcel_maps.proofs.Triangulations as triangulations
 use Rattle.dcel_predicates.specs.declared.point.Point.{Point}
 use Rattle.dcel_plane.specs.Plane.{ListsCircled, TrianglesTurnLeft, origin_point, point_at}
@@ -18,16 +19,19 @@ use Rattle.dcel_plane.proofs.removal.Cleaned.{IsCleaned, cleaned_is}
 use Rattle.dcel_plane.proofs.covering.Starts.{inner_half}
 use Rattle.dcel_plane.specs.hull.Straight.{IsStraight}
 use Rattle.dcel_plane.proofs.removal.Renumbering.{cleanup_keeps, cleanup_lists, cleanup_straight, cleanup_was_inner, taken_out_keeps, taken_out_lists, taken_out_straight, taken_out_was_inner}
-use Rattle.dcel_planar.specs.Growing.{HasHull, IsFlat, IsJoined, IsDelaunayBut}
+use Rattle.dcel_planar.specs.Growing.{HasHull, IsFlat, IsJoined}
+use Rattle.dcel_planar.specs.Legalization.{ListsLoose}
 use Rattle.dcel_delaunay.specs.Removing.{IsGivenUp, Loses}
+use Rattle.dcel_delaunay.specs.Staying.{IsLegalBut, LosesNoneStaying, StaysBetween}
 use Rattle.dcel_delaunay.specs.declared.removed.Removed.{Removed}
 use Rattle.dcel_delaunay.proofs.Emptied.{at_points}
+use Rattle.dcel_delaunay.proofs.Staying.{leaves_staying, left_staying, lists_live, live_staying, of_circled, renumbered_stays}
 
 -- Euler's formula, with one vertex less
 euler_after : (v f e k j vn fn en : ℕ) → v + f + k ≡ e + j + 3 → 0 < v → k ≤ e → j ≤ f → vn ≡ v - 1 → fn ≡ f - j → en ≡ e - k → vn + fn ≡ en + 2
 euler_after v f e k j vn fn en euler some few_edges few_faces vertices faces edges = omega (arith, euler, some, few_edges, few_faces, vertices, faces, edges)
 
-module _ {DE UE F A : Type 0} (old mid : Mesh Point DE UE F) (v : ℕ) (due : List ℕ) (out : IsolateVertexResult A) (given : IsGivenUp old mid v due out) (below : v < old.shape.vertices)
+module _ {DE UE F A : Type 0} (stays : UE → Bool) (old mid : Mesh Point DE UE F) (v : ℕ) (due : List ℕ) (out : IsolateVertexResult A) (given : IsGivenUp stays old mid v due out) (below : v < old.shape.vertices)
     (many : 1 < old.shape.vertices) (clean : IsMesh (cleaned_up mid)) (done : IsMesh (vertex_taken_out (cleaned_up mid) v)) where
   abbrev c : Mesh Point DE UE F
   c = cleaned_up mid
@@ -57,6 +61,13 @@ module _ {DE UE F A : Type 0} (old mid : Mesh Point DE UE F) (v : ℕ) (due : Li
   stands : (w : ℕ) → vertex_is_live c.shape w ≡ true → point_at n (moved (c.shape.vertices - 1) v w) ≡ point_at c w
   stands w live = (vertex_leaves_live c clean v clean_record).vertex_datum w origin_point live
 
+  -- v itself is not live
+  not_gone : (w : ℕ) → vertex_is_live c.shape w ≡ true → w ≢ v
+  unfolding gives_up_vertex
+  not_gone w live is =
+      let parts = is_live-parts (gives_up_vertex c.shape.removal) c.shape.vertices w live in
+      false≢true (sym parts.1 ∙ ap (λ r. gives_up_vertex r w) clean_record ∙ eq-eqb v w (sym is))
+
   removed_joined : IsJoined n.shape
   removed_joined = record {
     euler = λ some.
@@ -73,7 +84,39 @@ module _ {DE UE F A : Type 0} (old mid : Mesh Point DE UE F) (v : ℕ) (due : Li
     empty = λ none. absurd (let is_vertices = vertices_are in omega (arith, none, is_vertices, many));
   }
 
-  pub removed_sound : IsDelaunayBut (vertex_taken_out (cleaned_up mid) v) (map (new_edge mid.shape) due)
+  removed_listed : ListsLoose stays (vertex_taken_out (cleaned_up mid) v) (map (new_edge mid.shape) due)
+  removed_listed =
+      let ne = new_edge mid.shape in
+      let both = due ++ live_staying stays mid in
+      of_circled stays n (map ne due) (map ne (live_staying stays mid)) (λ u there. renumbered_stays stays mid given.mesh clean u there)
+      (subst (λ (l : List ℕ). ListsCircled (point_at n) n.shape l) (map-append ne due (live_staying stays mid))
+      (taken_out_lists c clean (point_at c) (point_at n) v clean_record done stands (map ne both)
+      (at_points (λ at. ListsCircled at c.shape (map ne both)) mid c left.points
+      (cleanup_lists mid given.mesh (point_at mid) clean both (lists_live stays mid due given.listed)))))
+
+  -- edges that stay lead between the same vertices
+  pub removed_staying : LosesNoneStaying stays old (vertex_taken_out (cleaned_up mid) v) v
+  removed_staying a b not_a not_b =
+      let last = c.shape.vertices - 1 in
+      let vertex = moved last v in
+      let known = leaves_live mid given.mesh in
+      let then = vertex_leaves_live c clean v clean_record in
+      let one : (w k : ℕ) → vertex_is_live c.shape w ≡ true → k ≢ v → moved last v w ≡ moved last v k → w ≡ k =
+      λ w k live not same. sym (moved-back last v w (not_gone w live)) ∙ ap (moved v last) same ∙ moved-back last v k not in
+      subst (λ (l : ℕ). StaysBetween stays old a b ↔ StaysBetween stays n (moved (l - 1) v a) (moved (l - 1) v b)) vertices_are (
+        λ was.
+            leaves_staying stays c n (λ h. h) vertex (λ f. f) then clean.sized.undirected_data done.sized.undirected_data a b clean
+            (leaves_staying stays mid c (new_half mid.shape) (λ w. w) _ known given.mesh.sized.undirected_data clean.sized.undirected_data a b given.mesh
+            ((given.staying a b not_a not_b).0 was)),
+        λ is.
+            (given.staying a b not_a not_b).1
+            (left_staying stays mid c (new_half mid.shape) (λ w. w) _ known given.mesh.sized.undirected_data clean.sized.undirected_data a b given.mesh (λ w live same. same)
+            (λ w live same. same)
+            (left_staying stays c n (λ h. h) vertex (λ f. f) then clean.sized.undirected_data done.sized.undirected_data a b clean (λ w live same. one w a live not_a same)
+            (λ w live same. one w b live not_b same) is)),
+      )
+
+  pub removed_sound : IsLegalBut stays (vertex_taken_out (cleaned_up mid) v) (map (new_edge mid.shape) due)
   removed_sound = record {
     triangulated = record {
       closed = refl;
@@ -82,9 +125,7 @@ module _ {DE UE F A : Type 0} (old mid : Mesh Point DE UE F) (v : ℕ) (due : Li
       plane = (taken_out_keeps c clean (point_at c) (point_at n) v clean_record done stands).0 (at_points (λ at. TrianglesTurnLeft at c.shape) mid c left.points
           ((cleanup_keeps mid given.mesh (point_at mid) clean).0 given.plane));
     };
-    listed =
-        taken_out_lists c clean (point_at c) (point_at n) v clean_record done stands (map (new_edge mid.shape) due)
-        (at_points (λ at. ListsCircled at c.shape (map (new_edge mid.shape) due)) mid c left.points (cleanup_lists mid given.mesh (point_at mid) clean due given.listed));
+    listed = removed_listed;
   }
 
   -- where no triangle is left, one face is
@@ -138,20 +179,23 @@ module _ {DE UE F A : Type 0} (old mid : Mesh Point DE UE F) (v : ℕ) (due : Li
         ∙ ap (λ (points : List Point). slice_index_or points w origin_point) points_are;
   }
 
-module _ {DE UE F A : Type 0} (old mid new : Mesh Point DE UE F) (v : ℕ) (due items : List ℕ) (out : IsolateVertexResult A) (given : IsGivenUp old mid v due out)
+module _ {DE UE F A : Type 0} (stays : UE → Bool) (old mid new : Mesh Point DE UE F) (v : ℕ) (due items : List ℕ) (out : IsolateVertexResult A) (given : IsGivenUp stays old mid v due out)
     (below : v < old.shape.vertices) (many : 1 < old.shape.vertices) (clean : IsMesh (cleaned_up mid)) (after : IsMesh new) (is : new ≡ vertex_taken_out (cleaned_up mid) v)
     (renamed : items ≡ map (new_edge mid.shape) due) where
   done : IsMesh (vertex_taken_out (cleaned_up mid) v)
   done = subst (λ (k : Mesh Point DE UE F). IsMesh k) is after
 
-  pub taken_sound : IsDelaunayBut new items
+  pub taken_sound : IsLegalBut stays new items
   taken_sound =
-      subst (λ (list : List ℕ). IsDelaunayBut new list) (sym renamed)
-      (subst (λ (k : Mesh Point DE UE F). IsDelaunayBut k (map (new_edge mid.shape) due)) (sym is) (removed_sound old mid v due out given below many clean done))
+      subst (λ (list : List ℕ). IsLegalBut stays new list) (sym renamed)
+      (subst (λ (k : Mesh Point DE UE F). IsLegalBut stays k (map (new_edge mid.shape) due)) (sym is) (removed_sound stays old mid v due out given below many clean done))
+
+  pub taken_staying : LosesNoneStaying stays old new v
+  taken_staying = subst (λ (k : Mesh Point DE UE F). LosesNoneStaying stays old k v) (sym is) (removed_staying stays old mid v due out given below many clean done)
 
   pub taken_hull : IsFlat new ⊎ HasHull new
-  taken_hull = subst (λ (k : Mesh Point DE UE F). IsFlat k ⊎ HasHull k) (sym is) (removed_hull old mid v due out given below many clean done)
+  taken_hull = subst (λ (k : Mesh Point DE UE F). IsFlat k ⊎ HasHull k) (sym is) (removed_hull stays old mid v due out given below many clean done)
 
   pub taken_loses : (r : Removed) → r.point ≡ slice_index_or (cleaned_up mid).vertex_data v r.point
       → r.moved ≡ cond (v == (cleaned_up mid).shape.vertices - 1) None (Some ((cleaned_up mid).shape.vertices - 1)) → Loses old new v r
-  taken_loses r point moves = subst (λ (k : Mesh Point DE UE F). Loses old k v r) (sym is) (removed_loses old mid v due out given below many clean done r point moves)
+  taken_loses r point moves = subst (λ (k : Mesh Point DE UE F). Loses old k v r) (sym is) (removed_loses stays old mid v due out given below many clean done r point moves)

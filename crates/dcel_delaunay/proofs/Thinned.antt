@@ -7,26 +7,25 @@ use Rattle.dcel_maps.specs.edits.Flip.{edge_flipped}
 use Rattle.dcel_maps.specs.Shapes.{IsMesh, Mesh, Shape, face_count, face_of, origin_of, prev_of}
 use Rattle.dcel_maps.specs.Sides.{IsOnHull}
 use Rattle.dcel_maps.specs.Walking.{IsOutEdge, ListsOnce, out_edges_of}
-use Rattle.dcel_maps.specs.Words.{count_of}
 use Rattle.dcel_maps.proofs.edits.Flips.{flipped_mesh}
 use Rattle.dcel_maps.proofs.Triangulations.{flipped}
 use Rattle.dcel_maps.proofs.walks.Turning.{mesh-out_edges}
-use Rattle.dcel_maps.proofs.words.Counts.{count-append}
 use Rattle.dcel_predicates.specs.declared.point.Point.{Point}
 use Rattle.dcel_legalize.specs.Flipping.{sides_beside}
 use Rattle.dcel_planar.proofs.Circled.{inner_from}
-use Rattle.dcel_plane.specs.Plane.{ListsCircled, TurnsLeft, point_at}
-use Rattle.dcel_plane.proofs.edits.Flipped.{flip_lists}
+use Rattle.dcel_plane.specs.Plane.{TurnsLeft, point_at}
 use Rattle.dcel_plane.proofs.hull.Keeping.{flip_keeps_convex, flip_keeps_hull}
 use Rattle.dcel_plane.specs.removal.Wheels.{CanFlipInPlane}
 use Rattle.dcel_plane.proofs.removal.Fewer.{flip_keeps_inner, flip_takes_one}
 use Rattle.dcel_plane.proofs.removal.FlippedInside.{outer_start, outer_stays}
 use Rattle.dcel_plane.proofs.removal.Turnable.{turn_keeps_plane}
 use Rattle.dcel_planar.specs.Corners.{StartsOutside}
-use Rattle.dcel_planar.specs.Growing.{HasHull, IsDelaunayBut, Keeps}
+use Rattle.dcel_planar.specs.Growing.{HasHull, Keeps}
 use Rattle.dcel_delaunay.specs.Removing.{IsInnerVertex, IsTurnable}
+use Rattle.dcel_delaunay.specs.Staying.{HasLooseEdges, IsLegalBut, KeepsStaying}
 use Rattle.dcel_planar.proofs.Counting.{flipped_joined}
 use Rattle.dcel_planar.proofs.Growth.{flipped-keeps, keeps-trans}
+use Rattle.dcel_delaunay.proofs.Staying.{flip_listed, flip_loose, flip_staying, keeps_trans}
 
 -- what can be flipped so lies between two inner triangles
 pub hull_stays : (at : ℕ → Point) (s : Shape) (u : ℕ) → IsOnHull s (2 * u) → ¬ CanFlipInPlane at s u
@@ -56,32 +55,19 @@ left_as b {p} {q} {r} {p'} {q'} {r'} ep eq er told =
     subst (λ (k : Point). IsTrue b ↔ TurnsLeft p' q' k) er (subst (λ (k : Point). IsTrue b ↔ TurnsLeft p' k r) eq (subst (λ (k : Point). IsTrue b ↔ TurnsLeft k q r) ep told))
 
 module _ {DE UE F : Type 0} where
-  -- a flip whose edge is listed, with the sides beside it
-  pub flip_listed : (m : Mesh Point DE UE F) → IsMesh m → (u : ℕ) → CanFlip m.shape u → (due : List ℕ) → ListsCircled (point_at m) m.shape due
-      → ListsCircled (point_at m) (edge_flipped m u).shape ((due ++ u ∷ []) ++ sides_beside m.shape u)
-  flip_listed m mesh u can due lists w inner circled =
-      let sides = sides_beside m.shape u in
-      let own = u ∷ [] in
-      let found : 0 < count_of w (due ++ (sides ++ own)) = flip_lists m mesh u can (point_at m) due lists w inner circled in
-      let whole = count-append w due (sides ++ own) in
-      let parts = count-append w sides own in
-      let wanted = count-append w (due ++ own) sides in
-      let first = count-append w due own in
-      omega (arith, found, whole, parts, wanted, first)
-
   module _ (m : Mesh Point DE UE F) (mesh : IsMesh m) (e : ℕ) (turn : CanFlipInPlane (point_at m) m.shape (e / 2)) where
     abbrev n : Mesh Point DE UE F
     n = edge_flipped m (e / 2)
 
-    half_sound : (due : List ℕ) → IsDelaunayBut m due → IsDelaunayBut n ((due ++ (e / 2) ∷ []) ++ sides_beside m.shape (e / 2))
-    half_sound due sound = record {
+    half_sound : (stays : UE → Bool) (due : List ℕ) → IsLegalBut stays m due → IsLegalBut stays n ((due ++ (e / 2) ∷ []) ++ sides_beside m.shape (e / 2))
+    half_sound stays due sound = record {
       triangulated = record {
         closed = sound.closed;
         joined = flipped_joined m (e / 2) sound.joined;
         triangles = flipped m sound.triangles (e / 2);
         plane = turn_keeps_plane m mesh (point_at m) (e / 2) turn sound.plane;
       };
-      listed = flip_listed m mesh (e / 2) turn.can due sound.listed;
+      listed = flip_listed stays m mesh (e / 2) turn.can due sound.listed;
     }
 
     half_hull : HasHull m → HasHull n
@@ -115,19 +101,22 @@ module _ {DE UE F : Type 0} where
         let less = flip_takes_one m mesh (point_at m) e turn.can (out_edges_of m v) (out_edges_of n v) first second in
         omega (arith, less)
 
+module _ {DE UE F : Type 0} (stays : UE → Bool) where
   -- what holds once the edge of a vertex is flipped
   pub record IsThinned (m : Mesh Point DE UE F) (due : List ℕ) (v : ℕ) (n : Mesh Point DE UE F) (rest : List ℕ) : Type 0 where
     pub mesh : IsMesh n
     pub below : v < n.shape.vertices
     pub keeps : Keeps m n
     pub edges : n.shape.edges ≡ m.shape.edges
-    pub sound : IsDelaunayBut n rest
+    pub sound : IsLegalBut stays n rest
     pub hull : HasHull n
     pub inside : IsInnerVertex m.shape v → IsInnerVertex n.shape v
     pub outside : (h : ℕ) → StartsOutside m v h → StartsOutside n v h
+    pub staying : KeepsStaying stays m n
+    pub loose : HasLooseEdges stays n v
 
-  pub thin_begins : (m : Mesh Point DE UE F) (due : List ℕ) (v : ℕ) → IsMesh m → IsDelaunayBut m due → HasHull m → v < m.shape.vertices → IsThinned m due v m due
-  thin_begins m due v mesh sound has below = record {
+  pub thin_begins : (m : Mesh Point DE UE F) (due : List ℕ) (v : ℕ) → IsMesh m → IsLegalBut stays m due → HasHull m → v < m.shape.vertices → HasLooseEdges stays m v → IsThinned m due v m due
+  thin_begins m due v mesh sound has below loose = record {
     mesh = mesh;
     below = below;
     keeps = record { closed = sound.closed; vertices = refl; points = refl; edges = omega arith };
@@ -136,26 +125,31 @@ module _ {DE UE F : Type 0} where
     hull = has;
     inside = λ is. is;
     outside = λ h is. is;
+    staying = λ a b. (λ is. is, λ is. is);
+    loose = loose;
   }
 
   module _ (m : Mesh Point DE UE F) (due : List ℕ) (v : ℕ) (n : Mesh Point DE UE F) (rest : List ℕ) (way : IsThinned m due v n rest) where
-    at_half : (e : ℕ) → CanFlipInPlane (point_at n) n.shape (e / 2) → IsThinned m due v (edge_flipped n (e / 2)) ((rest ++ (e / 2) ∷ []) ++ sides_beside n.shape (e / 2))
-    at_half e turn = record {
+    at_half : (e : ℕ) → IsOutEdge n.shape v e → CanFlipInPlane (point_at n) n.shape (e / 2)
+        → IsThinned m due v (edge_flipped n (e / 2)) ((rest ++ (e / 2) ∷ []) ++ sides_beside n.shape (e / 2))
+    at_half e out turn = record {
       mesh = flipped_mesh n (e / 2) way.mesh turn.can;
       below = way.below;
       keeps = keeps-trans m n (edge_flipped n (e / 2)) way.keeps (flipped-keeps n way.sound.closed (e / 2));
       edges = way.edges;
-      sound = half_sound n way.mesh e turn rest way.sound;
+      sound = half_sound n way.mesh e turn stays rest way.sound;
       hull = half_hull n way.mesh e turn way.hull;
       inside = λ inside. half_inside n way.mesh e turn v (way.inside inside);
       outside = λ h is. half_outside n way.mesh e turn v h (way.outside h is);
+      staying = keeps_trans stays m n (edge_flipped n (e / 2)) way.staying (flip_staying stays n (e / 2) (way.loose e out));
+      loose = flip_loose stays n (e / 2) (way.loose e out) v way.loose;
     }
 
     module _ (u : ℕ) (turn : IsTurnable n v u) where
       pub thins : IsThinned m due v (edge_flipped n u) ((rest ++ u ∷ []) ++ sides_beside n.shape u)
       thins =
           let can = subst (λ (k : ℕ). CanFlipInPlane (point_at n) n.shape k) (sym turn.is) turn.can in
-          subst (λ (k : ℕ). IsThinned m due v (edge_flipped n k) ((rest ++ k ∷ []) ++ sides_beside n.shape k)) turn.is (at_half turn.half can)
+          subst (λ (k : ℕ). IsThinned m due v (edge_flipped n k) ((rest ++ k ∷ []) ++ sides_beside n.shape k)) turn.is (at_half turn.half turn.out can)
 
       pub one_less : (after : Mesh Point DE UE F) → after ≡ edge_flipped n u → length (out_edges_of after v) < length (out_edges_of n v)
       one_less after is =

@@ -1,5 +1,5 @@
 -- A vertex taken out: what its edges are before, and what is left.
-use Rattle.std.specs.Prelude.{◌≡◌, ◌≢◌, ◌⊎◌, ℕ, ◌<◌, ◌+◌, ◌-◌, ◌/◌, ◌==◌, List, [], length, None, Some, cond}
+use Rattle.std.specs.Prelude.{◌≡◌, ◌≢◌, ◌⊎◌, ℕ, ◌<◌, ◌+◌, ◌-◌, ◌/◌, ◌==◌, Bool, List, [], length, None, Some, cond}
 use Rattle.spade_dcel.specs.declared.operations.results.IsolateVertexResult.{IsolateVertexResult}
 use Rattle.dcel_maps.specs.Borders.{IsBorderLoop}
 use Rattle.dcel_maps.specs.Conditions.{HasRoom}
@@ -11,16 +11,18 @@ use Rattle.dcel_maps.specs.edits.Strip.{strip_cut, strip_edges, strip_faces}
 use Rattle.dcel_maps.specs.Strips.{strip_of}
 use Rattle.dcel_maps.specs.Walking.{IsOutEdge, ccw_of}
 use Rattle.dcel_predicates.specs.declared.point.Point.{Point}
-use Rattle.dcel_plane.specs.Plane.{ListsCircled, TrianglesTurnLeft, point_at}
+use Rattle.dcel_plane.specs.Plane.{TrianglesTurnLeft, point_at}
 use Rattle.dcel_plane.specs.covering.Covering.{IsConvex, IsHull}
 use Rattle.dcel_plane.specs.hull.Straight.{IsStraight}
 use Rattle.spade_dcel.specs.Opened.{HasOpened}
 use Rattle.dcel_plane.specs.removal.Wheels.{CanFlipInPlane, MakesTwo}
 use Rattle.dcel_planar.specs.Corners.{StartsOutside}
 use Rattle.dcel_planar.specs.Growing.{HasHull, Keeps}
+use Rattle.dcel_planar.specs.Legalization.{ListsLoose}
 use Rattle.dcel_planar.specs.Outcomes.{IsWholeMesh, KeepsWhole}
 use Rattle.dcel_planar.specs.Places.{HasPoint, IsOnLine}
 use Rattle.dcel_planar.specs.declared.planar.PlanarMesh.{PlanarMesh}
+use Rattle.dcel_delaunay.specs.Staying.{KeepsOthersStaying}
 use Rattle.dcel_delaunay.specs.declared.errors.RemovalError.{RemovalError}
 use Rattle.dcel_delaunay.specs.declared.errors.RemovalError.TheVariants.{NoVertex, OutOfMemory, TooManyPoints, Unfinished}
 use Rattle.dcel_delaunay.specs.declared.removed.Removed.{Removed}
@@ -88,21 +90,6 @@ module _ {DE UE F : Type 0} where
     pub none : (h : ℕ) → IsLive m.shape h → face_of m.shape h ≡ 0
     pub straight : IsStraight (point_at m) m.shape
 
-  -- v is given up, with edges and faces of the numbers that Euler's formula wants, and what is left lies in the plane with its hull, or on a line
-  pub record IsGivenUp {A : Type 0} (old new : Mesh Point DE UE F) (v : ℕ) (due : List ℕ) (opened : IsolateVertexResult A) : Type 0 where
-    pub mesh : IsMesh new
-    pub vertices : new.shape.vertices ≡ old.shape.vertices
-    pub points : new.vertex_data ≡ old.vertex_data
-    pub edges : List ℕ
-    pub faces : List ℕ
-    pub removal : new.shape.removal ≡ Isolated edges faces (Some v)
-    pub named : IsListed new.shape.removal opened.edges_to_remove.items opened.faces_to_remove.items
-    pub euler : old.shape.vertices + face_count new.shape + length edges ≡ new.shape.edges + length faces + 3
-    pub triangles : AllTriangles new.shape
-    pub plane : TrianglesTurnLeft (point_at new) new.shape
-    pub listed : ListsCircled (point_at new) new.shape due
-    pub left : HasOutline new ⊎ IsStrung new
-
   -- the vertex v is gone, the last one has its number, and each other one stands where it stood
   pub record Loses (old new : Mesh Point DE UE F) (v : ℕ) (removed : Removed) : Type 0 where
     pub within : v < old.shape.vertices
@@ -117,6 +104,24 @@ module _ {DE UE F : Type 0} where
   FailsToCutOut old new due items v TooManyPoints = (v < old.shape.vertices) × IsInnerVertex old.shape v × ¬ HasRoom old.shape 0 1 2 × (new ≡ old) × (items ≡ due)
   FailsToCutOut old new due items v OutOfMemory = Keeps old new
   FailsToCutOut old new due items v (Unfinished removed) = ⊥
+
+module _ {DE UE F : Type 0} (stays : UE → Bool) where
+  -- v is given up, with edges and faces of the numbers that Euler's formula wants, and what is left lies in the plane with its hull, or on a
+  -- line; edges that have to stay are left
+  pub record IsGivenUp {A : Type 0} (old new : Mesh Point DE UE F) (v : ℕ) (due : List ℕ) (opened : IsolateVertexResult A) : Type 0 where
+    pub mesh : IsMesh new
+    pub vertices : new.shape.vertices ≡ old.shape.vertices
+    pub points : new.vertex_data ≡ old.vertex_data
+    pub edges : List ℕ
+    pub faces : List ℕ
+    pub removal : new.shape.removal ≡ Isolated edges faces (Some v)
+    pub named : IsListed new.shape.removal opened.edges_to_remove.items opened.faces_to_remove.items
+    pub euler : old.shape.vertices + face_count new.shape + length edges ≡ new.shape.edges + length faces + 3
+    pub triangles : AllTriangles new.shape
+    pub plane : TrianglesTurnLeft (point_at new) new.shape
+    pub listed : ListsLoose stays new due
+    pub left : HasOutline new ⊎ IsStrung new
+    pub staying : KeepsOthersStaying stays old new v
 
 module _ {UE A : Type 0} where
   -- a removal of the vertex v fails

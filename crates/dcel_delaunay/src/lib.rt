@@ -22,6 +22,7 @@ mod triangulation;
 pub use dcel_planar::{EdgeMesh, InsertionError, Mesh, Point, PositionInTriangulation};
 pub use errors::{RemovalError, point};
 pub use insert::insertion_order;
+pub use remove::{Due, remove_from_line, remove_from_triangles};
 pub use removed::Removed;
 pub use triangles::{Triangle, least_numbers, triangulate, triangulate_with};
 pub use triangulation::Triangulation;

@@ -9,8 +9,8 @@ mod hole;
 mod line;
 mod triangles;
 
-pub(crate) use line::remove_from_line;
-pub(crate) use triangles::remove_from_triangles;
+pub use line::remove_from_line;
+pub use triangles::remove_from_triangles;
 
 /// Edges that are to be looked at.
-pub(crate) type Due<L> = Vec<FixedUndirectedEdgeHandle, L>;
+pub type Due<L> = Vec<FixedUndirectedEdgeHandle, L>;

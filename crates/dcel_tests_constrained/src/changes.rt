@@ -30,13 +30,17 @@ pub fn constrained<A: Allocator + Copy>(
 }
 
 /// Returns whether a marked edge joins two vertices.
-fn are_joined(triangulation: &ConstrainedTriangulation, from: u32, to: u32) -> bool {
+fn are_joined<A: Allocator>(
+    triangulation: &ConstrainedTriangulation<A>,
+    from: u32,
+    to: u32,
+) -> bool {
     triangulation.exists_constraint(vertex(from), vertex(to))
 }
 
 /// Checks whether marked edges join two vertices, each two of these.
-pub fn check_joined(
-    triangulation: &ConstrainedTriangulation,
+pub fn check_joined<A: Allocator>(
+    triangulation: &ConstrainedTriangulation<A>,
     pairs: &[Ends],
     wanted: bool,
 ) -> Result<(), Fail> {

@@ -15,4 +15,6 @@ mod loading;
 #[cfg(test)]
 mod refusals;
 #[cfg(test)]
+mod removals;
+#[cfg(test)]
 mod seen;

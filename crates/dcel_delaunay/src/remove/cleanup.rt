@@ -9,15 +9,15 @@ ghost use Rattle.dcel_maps.specs.Shapes.{IsMesh};
 
 use crate::remove::Due;
 use crate::removed::Removed;
-use dcel_planar::Mesh;
+use dcel_planar::EdgeMesh;
 use spade_dcel::handles::{FixedUndirectedEdgeHandle, FixedVertexHandle};
 use spade_dcel::laws::every_mesh;
 use spade_dcel::operations::{IsolateVertexResult, cleanup_isolated_vertex, swap_remove_vertex};
 use std::alloc::Allocator;
 
 /// Takes out what a removal has given up.
-pub(crate) fn take_out<A: Allocator, L: Allocator, B: Allocator>(
-    dcel: &mut Mesh<A>,
+pub(crate) fn take_out<UE: Drop, A: Allocator, L: Allocator, B: Allocator>(
+    dcel: &mut EdgeMesh<UE, A>,
     due: &mut Due<L>,
     opened: &mut IsolateVertexResult<B>,
     vertex: FixedVertexHandle,

@@ -7,12 +7,13 @@ ghost use Rattle.dcel_maps.specs.Removals.{Closed};
 ghost use Rattle.dcel_maps.specs.Shapes.{IsLive};
 ghost use Rattle.dcel_maps.specs.Strips.{IsStripAround, strip_of};
 ghost use Rattle.spade_dcel.specs.Handles.{mesh_behind, number_of};
-ghost use Rattle.dcel_planar.specs.Growing.{HasHull, IsDelaunayBut, Keeps};
+ghost use Rattle.dcel_planar.specs.Growing.{HasHull, Keeps};
 ghost use Rattle.dcel_delaunay.specs.Removing.{IsHullCorner, CutsOff, IsGivenUp, LiesFlat};
+ghost use Rattle.dcel_delaunay.specs.Staying.{HasLooseEdges, IsLegalBut, KeepsStaying};
 
 use crate::remove::Due;
-use dcel_legalize::append_sides;
-use dcel_planar::{Edge, Mesh, Point, point_of, side};
+use dcel_legalize::{EdgeConstraint, append_sides};
+use dcel_planar::{Edge, EdgeMesh, Point, point_of, side};
 use spade_dcel::handles::{FixedDirectedEdgeHandle, FixedUndirectedEdgeHandle, FixedVertexHandle};
 use spade_dcel::iterators::{CCWEdgesNextBackFn, CircularIterator};
 use spade_dcel::laws::every_mesh;
@@ -23,17 +24,19 @@ use std::alloc::{AllocError, Allocator};
 /// flipped any more.
 ///
 /// If memory runs out, the vertices stay where they are, and no edge is taken out.
-pub(crate) fn cut_off<A: Allocator + Clone, L: Allocator>(
-    dcel: &mut Mesh<A>,
+pub(crate) fn cut_off<UE: EdgeConstraint, A: Allocator + Clone, L: Allocator>(
+    dcel: &mut EdgeMesh<UE, A>,
     due: &mut Due<L>,
     outside: FixedDirectedEdgeHandle,
     vertex: FixedVertexHandle,
 ) -> Result<IsolateVertexResult<A>, AllocError>
-    requires sound { IsDelaunayBut dcel.old due.old.items }
+    requires sound { IsLegalBut UE.is_constraint dcel.old due.old.items }
     requires corner { IsHullCorner dcel.old vertex outside }
-    ensures given_up { IfOk result (λ opened. IsGivenUp dcel.old dcel.new vertex due.new.items opened) }
+    requires loose { HasLooseEdges UE.is_constraint dcel.old vertex }
+    ensures given_up { IfOk result (λ opened. IsGivenUp UE.is_constraint dcel.old dcel.new vertex due.new.items opened) }
     ensures keeps { OnErr result (Keeps dcel.old dcel.new) }
-    ensures sound { OnErr result (IsDelaunayBut dcel.new due.new.items) }
+    ensures staying { OnErr result (KeepsStaying UE.is_constraint dcel.old dcel.new) }
+    ensures sound { OnErr result (IsLegalBut UE.is_constraint dcel.new due.new.items) }
     ensures hull { OnErr result (HasHull dcel.new) }
 {
     every_mesh(dcel);
@@ -45,18 +48,20 @@ pub(crate) fn cut_off<A: Allocator + Clone, L: Allocator>(
 
 /// Gives up a corner that is between its two neighbors on the hull, by a flip that leaves one flat
 /// triangle there, which goes with it.
-fn cut_off_flat<A: Allocator + Clone, L: Allocator>(
-    dcel: &mut Mesh<A>,
+fn cut_off_flat<UE: EdgeConstraint, A: Allocator + Clone, L: Allocator>(
+    dcel: &mut EdgeMesh<UE, A>,
     due: &mut Due<L>,
     outside: FixedDirectedEdgeHandle,
     vertex: FixedVertexHandle,
 ) -> Result<IsolateVertexResult<A>, AllocError>
-    requires sound { IsDelaunayBut dcel.old due.old.items }
+    requires sound { IsLegalBut UE.is_constraint dcel.old due.old.items }
     requires corner { IsHullCorner dcel.old vertex outside }
+    requires loose { HasLooseEdges UE.is_constraint dcel.old vertex }
     requires flat { LiesFlat dcel.old outside }
-    ensures given_up { IfOk result (λ opened. IsGivenUp dcel.old dcel.new vertex due.new.items opened) }
+    ensures given_up { IfOk result (λ opened. IsGivenUp UE.is_constraint dcel.old dcel.new vertex due.new.items opened) }
     ensures keeps { OnErr result (Keeps dcel.old dcel.new) }
-    ensures sound { OnErr result (IsDelaunayBut dcel.new due.new.items) }
+    ensures staying { OnErr result (KeepsStaying UE.is_constraint dcel.old dcel.new) }
+    ensures sound { OnErr result (IsLegalBut UE.is_constraint dcel.new due.new.items) }
     ensures hull { OnErr result (HasHull dcel.new) }
 {
     every_mesh(dcel);
@@ -78,7 +83,7 @@ fn cut_off_flat<A: Allocator + Clone, L: Allocator>(
 }
 
 /// Flips an edge three times more.
-fn turn_back<A: Allocator>(dcel: &mut Mesh<A>, edge: FixedUndirectedEdgeHandle)
+fn turn_back<UE, A: Allocator>(dcel: &mut EdgeMesh<UE, A>, edge: FixedUndirectedEdgeHandle)
     requires first { CanFlip dcel.old.shape edge }
     requires second { CanFlip (flips 1 dcel.old edge).shape edge }
     requires third { CanFlip (flips 2 dcel.old edge).shape edge }
@@ -91,7 +96,7 @@ fn turn_back<A: Allocator>(dcel: &mut Mesh<A>, edge: FixedUndirectedEdgeHandle)
 
 /// Returns whether the vertex where an outer half edge starts is between its two neighbors on the
 /// hull.
-fn lies_flat<A: Allocator>(outside: Edge<'_, (), A>) -> bool
+fn lies_flat<UE, A: Allocator>(outside: Edge<'_, UE, A>) -> bool
     requires { IsLive (mesh_behind outside).shape (number_of outside) }
     ensures { IsTrue result ↔ LiesFlat (mesh_behind outside.entry) (number_of outside.entry) }
 {
@@ -101,8 +106,8 @@ fn lies_flat<A: Allocator>(outside: Edge<'_, (), A>) -> bool
 /// Cuts off the vertex where an outer half edge starts, with the triangles around it.
 ///
 /// If memory runs out, nothing is changed.
-fn cut_strip<A: Allocator + Clone>(
-    dcel: &mut Mesh<A>,
+fn cut_strip<UE, A: Allocator + Clone>(
+    dcel: &mut EdgeMesh<UE, A>,
     outside: FixedDirectedEdgeHandle,
     vertex: FixedVertexHandle,
 ) -> Result<IsolateVertexResult<A>, AllocError>
@@ -118,14 +123,14 @@ fn cut_strip<A: Allocator + Clone>(
 }
 
 /// Returns the strip of the vertex where an outer half edge starts.
-fn strip_around<A: Allocator, B: Allocator>(
-    outside: Edge<'_, (), A>,
+fn strip_around<UE, A: Allocator, B: Allocator>(
+    outside: Edge<'_, UE, A>,
     alloc: B,
 ) -> Result<Vec<FixedDirectedEdgeHandle, B>, AllocError>
     requires { IsLive (mesh_behind outside).shape (number_of outside) }
     ensures { IfOk result (λ strip. strip.items ≡ strip_of (mesh_behind outside.entry).shape (number_of outside.entry)) }
 {
-    let around: CircularIterator<'_, Point, (), (), (), CCWEdgesNextBackFn, A> =
+    let around: CircularIterator<'_, Point, (), UE, (), CCWEdgesNextBackFn, A> =
         CircularIterator::new(outside);
     let mut strip = Vec::new(alloc);
     for edge in around {

@@ -5,12 +5,13 @@ ghost use Rattle.dcel_maps.specs.Shapes.{IsMesh};
 ghost use Rattle.dcel_plane.specs.Plane.{TurnsLeft, point_at};
 ghost use Rattle.dcel_plane.specs.removal.Wheels.{CanFlipInPlane};
 ghost use Rattle.dcel_planar.specs.Corners.{StartsOutside};
-ghost use Rattle.dcel_planar.specs.Growing.{HasHull, IsDelaunayBut, Keeps};
+ghost use Rattle.dcel_planar.specs.Growing.{HasHull, Keeps};
 ghost use Rattle.dcel_delaunay.specs.Removing.{HasNoneToTurn, IsInnerVertex, IsTurnable};
+ghost use Rattle.dcel_delaunay.specs.Staying.{HasLooseEdges, IsLegalBut, KeepsStaying};
 
 use crate::remove::Due;
-use dcel_legalize::append_sides;
-use dcel_planar::{Mesh, Point, points_at};
+use dcel_legalize::{EdgeConstraint, append_sides};
+use dcel_planar::{EdgeMesh, Point, points_at};
 use dcel_predicates::orientation;
 use spade_dcel::handles::{FixedUndirectedEdgeHandle, FixedVertexHandle};
 use spade_dcel::laws::every_mesh;
@@ -21,20 +22,23 @@ use std::alloc::{AllocError, Allocator};
 /// too, until none of its edges can be flipped so, and lists the edges of the triangles.
 ///
 /// If memory runs out, the flips made so far remain, and their edges are listed.
-pub(crate) fn thin_out<A: Allocator, L: Allocator>(
-    dcel: &mut Mesh<A>,
+pub(crate) fn thin_out<UE: EdgeConstraint, A: Allocator, L: Allocator>(
+    dcel: &mut EdgeMesh<UE, A>,
     due: &mut Due<L>,
     vertex: FixedVertexHandle,
 ) -> Result<(), AllocError>
-    requires sound { IsDelaunayBut dcel.old due.old.items }
+    requires sound { IsLegalBut UE.is_constraint dcel.old due.old.items }
     requires hull { HasHull dcel.old }
     requires vertex { vertex < dcel.old.shape.vertices }
+    requires loose { HasLooseEdges UE.is_constraint dcel.old vertex }
     ensures keeps { Keeps dcel.old dcel.new }
     ensures same_edges { dcel.new.shape.edges ≡ dcel.old.shape.edges }
-    ensures sound { IsDelaunayBut dcel.new due.new.items }
+    ensures sound { IsLegalBut UE.is_constraint dcel.new due.new.items }
     ensures hull { HasHull dcel.new }
     ensures inside { IsInnerVertex dcel.old.shape vertex → IsInnerVertex dcel.new.shape vertex }
     ensures outside { (h : ℕ) → StartsOutside dcel.old vertex h → StartsOutside dcel.new vertex h }
+    ensures staying { KeepsStaying UE.is_constraint dcel.old dcel.new }
+    ensures loose { HasLooseEdges UE.is_constraint dcel.new vertex }
     ensures done { OnOk result (HasNoneToTurn dcel.new vertex) }
     ensures mesh { IsMesh dcel.new }
 {
@@ -49,8 +53,8 @@ pub(crate) fn thin_out<A: Allocator, L: Allocator>(
 }
 
 /// Returns an edge of a vertex that can be flipped so, if there is one.
-fn edge_to_turn<A: Allocator>(
-    dcel: &Mesh<A>,
+fn edge_to_turn<UE, A: Allocator>(
+    dcel: &EdgeMesh<UE, A>,
     vertex: FixedVertexHandle,
 ) -> Option<FixedUndirectedEdgeHandle>
     requires { vertex < dcel.now.shape.vertices }
@@ -69,7 +73,7 @@ fn edge_to_turn<A: Allocator>(
 
 /// Returns whether an edge is between two inner triangles and can be flipped, and both go round
 /// counterclockwise then too.
-fn can_turn<A: Allocator>(dcel: &Mesh<A>, edge: FixedUndirectedEdgeHandle) -> bool
+fn can_turn<UE, A: Allocator>(dcel: &EdgeMesh<UE, A>, edge: FixedUndirectedEdgeHandle) -> bool
     ensures { IsTrue result ↔ CanFlipInPlane (point_at dcel.now) dcel.now.shape edge }
 {
     if !dcel.can_flip(edge) {

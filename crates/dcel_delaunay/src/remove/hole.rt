@@ -7,12 +7,13 @@ ghost use Rattle.dcel_plane.specs.Edges.{edges_inserted};
 ghost use Rattle.dcel_plane.specs.Plane.{point_at};
 ghost use Rattle.dcel_plane.specs.removal.Wheels.{MakesTwo};
 ghost use Rattle.spade_dcel.specs.Handles.{mesh_behind, number_of};
-ghost use Rattle.dcel_planar.specs.Growing.{IsDelaunayBut};
 ghost use Rattle.dcel_delaunay.specs.Removing.{BeginsBorder, IsFilled, IsGivenUp, IsThinnedOut};
+ghost use Rattle.dcel_delaunay.specs.Staying.{DefaultIsLoose, IsLegalBut};
 
 use crate::remove::Due;
 use crate::remove::flips::turns_left;
-use dcel_planar::{Edge, Mesh, edges_of, point_of};
+use dcel_legalize::EdgeConstraint;
+use dcel_planar::{Edge, EdgeMesh, edges_of, point_of};
 use spade_dcel::handles::{FixedDirectedEdgeHandle, FixedFaceHandle, FixedVertexHandle, InnerTag};
 use spade_dcel::laws::every_mesh;
 use spade_dcel::operations::{IsolateVertexResult, isolate_vertex_and_fill_hole};
@@ -22,15 +23,16 @@ use std::alloc::{AllocError, Allocator};
 /// hole with one triangle or two, and lists their edges.
 ///
 /// If memory runs out, nothing is changed.
-pub(crate) fn fill<A: Allocator + Clone, L: Allocator>(
-    dcel: &mut Mesh<A>,
+pub(crate) fn fill<UE: EdgeConstraint + Default, A: Allocator + Clone, L: Allocator>(
+    dcel: &mut EdgeMesh<UE, A>,
     due: &mut Due<L>,
     vertex: FixedVertexHandle,
 ) -> Result<IsolateVertexResult<A>, AllocError>
-    requires sound { IsDelaunayBut dcel.old due.old.items }
+    requires sound { IsLegalBut UE.is_constraint dcel.old due.old.items }
     requires thin { IsThinnedOut dcel.old vertex }
     requires room { HasRoom dcel.old.shape 0 1 2 }
-    ensures given_up { IfOk result (λ opened. IsGivenUp dcel.old dcel.new vertex due.new.items opened) }
+    requires default { DefaultIsLoose UE.is_default UE.is_constraint }
+    ensures given_up { IfOk result (λ opened. IsGivenUp UE.is_constraint dcel.old dcel.new vertex due.new.items opened) }
     ensures refused { IfErr result (λ _. (dcel.new ≡ dcel.old) × (due.new.items ≡ due.old.items)) }
 {
     every_mesh(dcel);
@@ -48,8 +50,8 @@ pub(crate) fn fill<A: Allocator + Clone, L: Allocator>(
 }
 
 /// Lists the edges of a triangle.
-fn list_sides<A: Allocator, L: Allocator>(
-    dcel: &Mesh<A>,
+fn list_sides<UE, A: Allocator, L: Allocator>(
+    dcel: &EdgeMesh<UE, A>,
     due: &mut Due<L>,
     face: FixedFaceHandle<InnerTag>,
 )
@@ -68,8 +70,8 @@ fn list_sides<A: Allocator, L: Allocator>(
 
 /// Returns the border loop of the vertex, from where the triangles that fill it go round
 /// counterclockwise.
-fn border_of<A: Allocator + Clone>(
-    dcel: &Mesh<A>,
+fn border_of<UE, A: Allocator + Clone>(
+    dcel: &EdgeMesh<UE, A>,
     vertex: FixedVertexHandle,
 ) -> Result<Vec<FixedDirectedEdgeHandle, A>, AllocError>
     requires { IsThinnedOut dcel.now vertex }
@@ -98,7 +100,10 @@ fn border_of<A: Allocator + Clone>(
 }
 
 /// Returns the out edge of the vertex at which the border loop begins.
-fn beginning<A: Allocator>(dcel: &Mesh<A>, vertex: FixedVertexHandle) -> FixedDirectedEdgeHandle
+fn beginning<UE, A: Allocator>(
+    dcel: &EdgeMesh<UE, A>,
+    vertex: FixedVertexHandle,
+) -> FixedDirectedEdgeHandle
     requires { IsThinnedOut dcel.now vertex }
     ensures { BeginsBorder dcel.now vertex result }
 {
@@ -118,7 +123,7 @@ fn beginning<A: Allocator>(dcel: &Mesh<A>, vertex: FixedVertexHandle) -> FixedDi
 
 /// Returns whether, of the four out edges of a vertex, a line from where this one ends to where the
 /// next but one ends makes two triangles that go round counterclockwise.
-fn makes_two<A: Allocator>(edge: Edge<'_, (), A>) -> bool
+fn makes_two<UE, A: Allocator>(edge: Edge<'_, UE, A>) -> bool
     requires { IsLive (mesh_behind edge).shape (number_of edge) }
     ensures { IsTrue result ↔ MakesTwo (point_at (mesh_behind edge.entry)) (mesh_behind edge.entry).shape (number_of edge.entry) }
 {

@@ -2,8 +2,9 @@ use Rattle.std.proofs.Common.{ap, inr}
 use Rattle.dcel_maps.specs.Renumbering.{cleaned}
 use Rattle.dcel_planar.proofs.Growth.{keeps-trans}
 use Rattle.dcel_planar.proofs.Whole.{on_err}
-use Rattle.dcel_delaunay.proofs.Lost.{lost_before, more_vertices, outside_below}
-use Rattle.dcel_delaunay.proofs.TakenOut.{taken_hull, taken_loses, taken_sound}
+use Rattle.dcel_delaunay.proofs.Lost.{lost_before, lost_staying, more_vertices, outside_below}
+use Rattle.dcel_delaunay.proofs.Staying.{keeps_trans}
+use Rattle.dcel_delaunay.proofs.TakenOut.{taken_hull, taken_loses, taken_sound, taken_staying}
 use Rattle.dcel_delaunay.proofs.remove.triangles.cut_out_corner.Goals as goal
 
 pub thin_out-requires-clause-vertex : goal.thin_out-requires-clause-vertex
@@ -30,16 +31,16 @@ returns-clause-sound g c =
     let mid = c.thin_out.new.dcel in
     let thinned = c.thin_out.ensures in
     let within = outside_below mid thinned.mesh c.args.vertex c.args.outside (thinned.outside c.args.outside c.requires.outside) in
-    taken_sound mid c.cut_off.new.dcel c.take_out.new.dcel c.args.vertex c.cut_off.new.due.items c.take_out.new.due.items _ c.in_ok-opened.ensures.given_up within
-    (more_vertices mid c.thin_out.new.due.items thinned.mesh thinned.sound thinned.hull) c.take_out.ensures.clean c.take_out.ensures.mesh c.take_out.ensures.edit c.take_out.ensures.due
+    taken_sound _ mid c.cut_off.new.dcel c.take_out.new.dcel c.args.vertex c.cut_off.new.due.items c.take_out.new.due.items _ c.in_ok-opened.ensures.given_up within
+    (more_vertices mid thinned.mesh thinned.sound.triangulated thinned.hull) c.take_out.ensures.clean c.take_out.ensures.mesh c.take_out.ensures.edit c.take_out.ensures.due
 
 pub returns-clause-hull : goal.returns-clause-hull
 returns-clause-hull g c =
     let mid = c.thin_out.new.dcel in
     let thinned = c.thin_out.ensures in
     let within = outside_below mid thinned.mesh c.args.vertex c.args.outside (thinned.outside c.args.outside c.requires.outside) in
-    taken_hull mid c.cut_off.new.dcel c.take_out.new.dcel c.args.vertex c.cut_off.new.due.items c.take_out.new.due.items _ c.in_ok-opened.ensures.given_up within
-    (more_vertices mid c.thin_out.new.due.items thinned.mesh thinned.sound thinned.hull) c.take_out.ensures.clean c.take_out.ensures.mesh c.take_out.ensures.edit c.take_out.ensures.due
+    taken_hull _ mid c.cut_off.new.dcel c.take_out.new.dcel c.args.vertex c.cut_off.new.due.items c.take_out.new.due.items _ c.in_ok-opened.ensures.given_up within
+    (more_vertices mid thinned.mesh thinned.sound.triangulated thinned.hull) c.take_out.ensures.clean c.take_out.ensures.mesh c.take_out.ensures.edit c.take_out.ensures.due
 
 pub returns-clause-loses : goal.returns-clause-loses
 returns-clause-loses g c =
@@ -47,6 +48,20 @@ returns-clause-loses g c =
     let thinned = c.thin_out.ensures in
     let within = outside_below mid thinned.mesh c.args.vertex c.args.outside (thinned.outside c.args.outside c.requires.outside) in
     lost_before c.args.dcel.now mid c.take_out.new.dcel c.args.vertex c.take_out.result thinned.keeps.points thinned.keeps.vertices
-    (taken_loses mid c.cut_off.new.dcel c.take_out.new.dcel c.args.vertex c.cut_off.new.due.items c.take_out.new.due.items _ c.in_ok-opened.ensures.given_up within
-    (more_vertices mid c.thin_out.new.due.items thinned.mesh thinned.sound thinned.hull) c.take_out.ensures.clean c.take_out.ensures.mesh c.take_out.ensures.edit c.take_out.ensures.due
+    (taken_loses _ mid c.cut_off.new.dcel c.take_out.new.dcel c.args.vertex c.cut_off.new.due.items c.take_out.new.due.items _ c.in_ok-opened.ensures.given_up within
+    (more_vertices mid thinned.mesh thinned.sound.triangulated thinned.hull) c.take_out.ensures.clean c.take_out.ensures.mesh c.take_out.ensures.edit c.take_out.ensures.due
     c.take_out.result c.take_out.ensures.point c.take_out.ensures.moved)
+
+pub returns-clause-staying : goal.returns-clause-staying
+returns-clause-staying g c =
+    let mid = c.thin_out.new.dcel in
+    let thinned = c.thin_out.ensures in
+    let within = outside_below mid thinned.mesh c.args.vertex c.args.outside (thinned.outside c.args.outside c.requires.outside) in
+    lost_staying _ c.args.dcel.now mid c.take_out.new.dcel c.args.vertex thinned.keeps.vertices thinned.staying
+    (taken_staying _ mid c.cut_off.new.dcel c.take_out.new.dcel c.args.vertex c.cut_off.new.due.items c.take_out.new.due.items _ c.in_ok-opened.ensures.given_up within
+    (more_vertices mid thinned.mesh thinned.sound.triangulated thinned.hull) c.take_out.ensures.clean c.take_out.ensures.mesh c.take_out.ensures.edit c.take_out.ensures.due)
+
+pub returns-in_err-opened-clause-still : goal.returns-in_err-opened-clause-still
+returns-in_err-opened-clause-still g c =
+    on_err c.from_residual-in_err-opened.result _
+    (keeps_trans _ c.args.dcel.now c.thin_out.new.dcel c.cut_off.new.dcel c.thin_out.ensures.staying c.in_err-opened.ensures.staying)

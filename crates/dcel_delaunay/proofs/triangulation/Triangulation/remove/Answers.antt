@@ -1,6 +1,6 @@
-use Rattle.std.proofs.Common.{◌≡◌, ◌≢◌, arith}
+use Rattle.std.proofs.Common.{◌≡◌, ◌≢◌, refl, arith}
 use Rattle.dcel_maps.specs.Shapes.{face_count}
-use Rattle.dcel_delaunay.proofs.Listed.{settled}
+use Rattle.dcel_delaunay.proofs.Listed.{never, settled, to_loose}
 use Rattle.dcel_planar.proofs.Whole.{flat_alone, hull_more}
 use Rattle.dcel_delaunay.proofs.triangulation.Triangulation.remove.Goals as goal
 
@@ -20,3 +20,17 @@ remove_from_triangles-requires-clause-hull g c =
     let mid = c.finish.new.self in
     let more : face_count mid.planar.dcel.shape ≢ 1 = λ one. omega (arith, c.num_faces.ensures.count, one) in
     hull_more mid.planar.dcel (settled mid.planar mid.listed c.in-Ok.ensures.whole).hull more
+
+pub remove_from_line-requires-clause-loose : goal.remove_from_line-requires-clause-loose
+remove_from_line-requires-clause-loose g c h out stay = never _ stay
+
+pub remove_from_triangles-requires-clause-sound : goal.remove_from_triangles-requires-clause-sound
+remove_from_triangles-requires-clause-sound g c =
+    let mid = c.finish.new.self in
+    record { triangulated = mid.planar.triangulated; listed = to_loose mid.planar.dcel mid.planar.due.items mid.listed }
+
+pub remove_from_triangles-requires-clause-loose : goal.remove_from_triangles-requires-clause-loose
+remove_from_triangles-requires-clause-loose g c h out stay = never _ stay
+
+pub remove_from_triangles-requires-clause-default : goal.remove_from_triangles-requires-clause-default
+remove_from_triangles-requires-clause-default g c datum is = refl

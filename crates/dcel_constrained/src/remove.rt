@@ -1,0 +1,177 @@
+//! A vertex removed, with the constraints that end at it.
+
+ghost use Rattle.std.specs.Prelude.{◌≡◌, ◌↔◌, ◌<◌, IfErr, IfNone, IfOk, IfSome, IsTrue, OnErr, OnOk};
+ghost use Rattle.dcel_constrained.specs.Constrained.{marked_mesh};
+ghost use Rattle.dcel_constrained.specs.Removing.{FreesEdgesOf, HasNoConstraintAt, IsMarkedAt, KeepsOtherConstraints, LeavesConstraints, LosesConstraintsOf};
+ghost use Rattle.dcel_constrained.specs.Soundness.{IsConstrained};
+ghost use Rattle.dcel_constrained.specs.Splitting.{StaysMarked};
+ghost use Rattle.dcel_delaunay.specs.Removing.{FailsToRemove, IsInnerVertex, Loses};
+ghost use Rattle.dcel_maps.specs.Conditions.{HasRoom};
+ghost use Rattle.dcel_maps.specs.Shapes.{IsMesh};
+ghost use Rattle.dcel_planar.specs.Growing.{Keeps};
+ghost use Rattle.dcel_planar.specs.Leaving.{IsOutlined};
+ghost use Rattle.dcel_planar.specs.Outcomes.{IsWholeMesh};
+
+use crate::mesh::{ConstrainedMesh, is_marked, set_mark};
+use crate::triangulation::ConstrainedTriangulation;
+use dcel_delaunay::{Due, RemovalError, Removed, remove_from_line, remove_from_triangles};
+use dcel_planar::outside_of;
+use dcel_regions::Mark;
+use spade_dcel::handles::{FixedUndirectedEdgeHandle, FixedVertexHandle};
+use spade_dcel::laws::every_mesh;
+use std::alloc::{AllocError, Allocator};
+
+impl<A: Allocator + Clone> ConstrainedTriangulation<A> {
+    /// Removes a vertex with the constraints that end at it, and returns its point.
+    ///
+    /// Marked edges at the vertex go with it. All others stay, between the same vertices, and no other
+    /// edge is marked. The last vertex gets the number of the vertex, as the result says; all others
+    /// keep theirs, but edges get new numbers. The triangulation is then one of the points that are
+    /// left, a line if they all are on one, and of none after the last.
+    ///
+    /// If there is no such vertex, the result is [`NoVertex`](RemovalError::NoVertex), and if it is
+    /// inside of triangles and no numbers are left for an edge and two triangles,
+    /// [`TooManyPoints`](RemovalError::TooManyPoints): a whole triangulation
+    /// ([`is_whole`](Self::is_whole)) is then as it was, and any other is whole now.
+    ///
+    /// If memory runs out before the vertex is gone, it stays, but constraints that end at it may be
+    /// freed; all other constraints stay. If it runs out afterwards, the result is
+    /// [`Unfinished`](RemovalError::Unfinished). Either way the next call that changes something, or
+    /// [`finish`](Self::finish), goes on with what is left to do.
+    pub fn remove(&mut self, vertex: FixedVertexHandle) -> Result<Removed, RemovalError>
+        ensures removes { IfOk result (Loses (marked_mesh self.old) (marked_mesh self.new) vertex) }
+        ensures constraints { OnOk result (LosesConstraintsOf (marked_mesh self.old) (marked_mesh self.new) vertex) }
+        ensures whole { OnOk result (IsWholeMesh self.new.planar) }
+        ensures refuses { IfErr result (FailsToRemove self.old.planar self.new.planar vertex) }
+        ensures left { IfErr result (LeavesConstraints (marked_mesh self.old) (marked_mesh self.new) vertex) }
+    {
+        every_mesh(&self.planar.dcel);
+        let Ok(()) = self.finish() else {
+            every_mesh(&self.planar.dcel);
+            return Err(RemovalError::OutOfMemory);
+        };
+        every_mesh(&self.planar.dcel);
+        if vertex.index() >= self.planar.dcel.num_vertices() {
+            return Err(RemovalError::NoVertex);
+        }
+        if lacks_room(&self.planar.dcel, vertex) {
+            return Err(RemovalError::TooManyPoints);
+        }
+        let Ok(removed) = take_out(&mut self.planar.dcel, &mut self.planar.due, vertex) else {
+            return Err(RemovalError::OutOfMemory);
+        };
+        self.settle(removed)
+    }
+
+    /// Flips the edges that a removal left to be looked at, and returns what was removed.
+    fn settle(&mut self, removed: Removed) -> Result<Removed, RemovalError>
+        requires hull { IsOutlined (marked_mesh self.old) }
+        ensures keeps { Keeps (marked_mesh self.old) (marked_mesh self.new) }
+        ensures stays { StaysMarked (marked_mesh self.old) (marked_mesh self.new) }
+        ensures same { IfOk result (λ r. r ≡ removed) }
+        ensures unfinished { IfErr result (λ e. (e ≡ RemovalError.Unfinished removed) × ¬ IsWholeMesh self.new.planar) }
+        ensures whole { OnOk result (IsWholeMesh self.new.planar) }
+        ensures mesh { IsMesh (marked_mesh self.new) }
+    {
+        let Ok(()) = self.planar.legalize() else {
+            every_mesh(&self.planar.dcel);
+            return Err(RemovalError::Unfinished(removed));
+        };
+        every_mesh(&self.planar.dcel);
+        Ok(removed)
+    }
+}
+
+/// Returns whether a vertex is inside of triangles, and there are no numbers for the edge and the two
+/// triangles that take its place.
+fn lacks_room<A: Allocator>(dcel: &ConstrainedMesh<A>, vertex: FixedVertexHandle) -> bool
+    requires { vertex < dcel.now.shape.vertices }
+    ensures { IsTrue result ↔ (IsInnerVertex dcel.now.shape vertex × ¬ HasRoom dcel.now.shape 0 1 2) }
+{
+    match outside_of(dcel, vertex) {
+        Some(_outside) => false,
+        None => !dcel.has_room(0, 1, 2),
+    }
+}
+
+/// Frees the marked edges of a vertex, removes it, and lists the edges that are to be looked at then.
+///
+/// If memory runs out, the vertex stays; marked edges of it may be freed, and edges flipped.
+fn take_out<A: Allocator + Clone>(
+    dcel: &mut ConstrainedMesh<A>,
+    due: &mut Due<A>,
+    vertex: FixedVertexHandle,
+) -> Result<Removed, AllocError>
+    requires sound { IsConstrained dcel.old due.old.items }
+    requires hull { IsOutlined dcel.old }
+    requires vertex { vertex < dcel.old.shape.vertices }
+    requires room { ¬ (IsInnerVertex dcel.old.shape vertex × ¬ HasRoom dcel.old.shape 0 1 2) }
+    ensures loses { IfOk result (Loses dcel.old dcel.new vertex) }
+    ensures constraints { OnOk result (LosesConstraintsOf dcel.old dcel.new vertex) }
+    ensures keeps { OnErr result (Keeps dcel.old dcel.new) }
+    ensures others { OnErr result (KeepsOtherConstraints dcel.old dcel.new vertex) }
+    ensures sound { IsConstrained dcel.new due.new.items }
+    ensures hull { IsOutlined dcel.new }
+    ensures mesh { IsMesh dcel.new }
+{
+    every_mesh(dcel);
+    let Ok(()) = free_edges_of(dcel, due, vertex) else {
+        return Err(AllocError);
+    };
+    if dcel.num_faces() == 1 {
+        let removed = remove_from_line(dcel, vertex);
+        every_mesh(dcel);
+        return Ok(removed);
+    }
+    let Ok(removed) = remove_from_triangles(dcel, due, vertex) else {
+        every_mesh(dcel);
+        return Err(AllocError);
+    };
+    every_mesh(dcel);
+    Ok(removed)
+}
+
+/// Frees the marked edges of a vertex, and lists them.
+///
+/// If memory runs out, some may be marked still.
+fn free_edges_of<A: Allocator>(
+    dcel: &mut ConstrainedMesh<A>,
+    due: &mut Due<A>,
+    vertex: FixedVertexHandle,
+) -> Result<(), AllocError>
+    requires sound { IsConstrained dcel.old due.old.items }
+    requires hull { IsOutlined dcel.old }
+    requires vertex { vertex < dcel.old.shape.vertices }
+    ensures frees { FreesEdgesOf dcel.old dcel.new vertex }
+    ensures sound { IsConstrained dcel.new due.new.items }
+    ensures hull { IsOutlined dcel.new }
+    ensures free { OnOk result (HasNoConstraintAt dcel.new vertex) }
+    ensures mesh { IsMesh dcel.new }
+{
+    every_mesh(dcel);
+    while let Some(edge) = marked_at(dcel, vertex) {
+        due.reserve(1)?;
+        set_mark(dcel, edge, Mark::Free);
+        due.push_reserved(edge);
+    }
+    Ok(())
+}
+
+/// Returns a marked edge of a vertex, if there is one.
+fn marked_at<A: Allocator>(
+    dcel: &ConstrainedMesh<A>,
+    vertex: FixedVertexHandle,
+) -> Option<FixedUndirectedEdgeHandle>
+    requires { vertex < dcel.now.shape.vertices }
+    ensures some { IfSome result (IsMarkedAt dcel.now vertex) }
+    ensures none { IfNone result (HasNoConstraintAt dcel.now vertex) }
+{
+    let mut edges = dcel.vertex(vertex).out_edges();
+    while let Some(edge) = edges.next() {
+        let edge = edge.fix().as_undirected();
+        if is_marked(dcel, edge) {
+            return Some(edge);
+        }
+    }
+    None
+}
