@@ -1,6 +1,7 @@
 use Rattle.std.proofs.Common.{ap, arith}
 use Rattle.dcel_maps.specs.Renumbering.{cleaned}
-use Rattle.dcel_delaunay.proofs.Lost.{lost_before, lost_staying, more_vertices, on_err, room_still, thin_is}
+use Rattle.dcel_planar.proofs.Whole.{on_err}
+use Rattle.dcel_delaunay.proofs.Lost.{lost_before, lost_staying, more_vertices, room_still, thin_is}
 use Rattle.dcel_delaunay.proofs.TakenOut.{taken_hull, taken_loses, taken_sound, taken_staying}
 use Rattle.dcel_delaunay.proofs.remove.triangles.cut_out.Goals as goal
 
