@@ -26,7 +26,7 @@ returns-clause-keeps g c =
 
 pub returns-clause-sound : goal.returns-clause-sound
 returns-clause-sound g c =
-    not_cut (λ m. IsLegalBut _ m c.args.due.now.items) c.cut_strip.result c.args.dcel.now c.cut_strip.new.dcel c.cut_strip.ensures.refused c.requires.sound
+    not_cut (λ m. IsLegalBut g.UE.EdgeConstraint.is_constraint m c.args.due.now.items) c.cut_strip.result c.args.dcel.now c.cut_strip.new.dcel c.cut_strip.ensures.refused c.requires.sound
 
 pub returns-clause-hull : goal.returns-clause-hull
 returns-clause-hull g c =
@@ -34,4 +34,4 @@ returns-clause-hull g c =
 
 pub returns-clause-staying : goal.returns-clause-staying
 returns-clause-staying g c =
-    not_cut (λ m. KeepsStaying _ c.args.dcel.now m) c.cut_strip.result c.args.dcel.now c.cut_strip.new.dcel c.cut_strip.ensures.refused (λ a b. (λ is. is, λ is. is))
+    not_cut (λ m. KeepsStaying g.UE.EdgeConstraint.is_constraint c.args.dcel.now m) c.cut_strip.result c.args.dcel.now c.cut_strip.new.dcel c.cut_strip.ensures.refused (λ a b. (λ is. is, λ is. is))

@@ -1,8 +1,9 @@
-use Rattle.std.proofs.Common.{ap, arith}
+use Rattle.std.proofs.Common.{ap, subst, sym, arith}
 use Rattle.dcel_maps.specs.Renumbering.{cleaned}
 use Rattle.dcel_planar.proofs.Whole.{on_err}
 use Rattle.dcel_delaunay.proofs.Lost.{lost_before, lost_staying, more_vertices, room_still, thin_is}
 use Rattle.dcel_delaunay.proofs.TakenOut.{taken_hull, taken_loses, taken_sound, taken_staying}
+use Rattle.dcel_delaunay.specs.Staying.{KeepsStaying}
 use Rattle.dcel_delaunay.proofs.remove.triangles.cut_out.Goals as goal
 
 pub fill-requires-clause-thin : goal.fill-requires-clause-thin
@@ -19,6 +20,11 @@ fill-requires-clause-room g c =
 
 pub take_out-requires-clause-given_up : goal.take_out-requires-clause-given_up
 take_out-requires-clause-given_up g c = ap cleaned c.in_ok-opened.ensures.given_up.removal
+
+pub returns-in_err-opened-clause-still : goal.returns-in_err-opened-clause-still
+returns-in_err-opened-clause-still g c =
+    on_err c.from_residual-in_err-opened.result _
+    (subst (λ m. KeepsStaying g.UE.EdgeConstraint.is_constraint c.args.dcel.now m) (sym c.in_err-opened.ensures.refused.0) c.thin_out.ensures.staying)
 
 pub returns-clause-sound : goal.returns-clause-sound
 returns-clause-sound g c =

@@ -1,7 +1,7 @@
 use Rattle.std.proofs.Common.{◌≡◌, ◌≢◌, refl, arith}
 use Rattle.dcel_maps.specs.Shapes.{face_count}
-use Rattle.dcel_delaunay.proofs.Listed.{never, settled, to_loose}
-use Rattle.dcel_planar.proofs.Whole.{flat_alone, hull_more}
+use Rattle.dcel_delaunay.proofs.Listed.{never, of_loose, settled, to_loose}
+use Rattle.dcel_planar.proofs.Whole.{either_outside, flat_alone, hull_more}
 use Rattle.dcel_delaunay.proofs.triangulation.Triangulation.remove.Goals as goal
 
 pub remove_from_line-requires-clause-sound : goal.remove_from_line-requires-clause-sound
@@ -34,3 +34,12 @@ remove_from_triangles-requires-clause-loose g c h out stay = never _ stay
 
 pub remove_from_triangles-requires-clause-default : goal.remove_from_triangles-requires-clause-default
 remove_from_triangles-requires-clause-default g c datum is = refl
+
+pub invariant_of-self-2 : goal.invariant_of-self-2
+invariant_of-self-2 g c =
+    let new = c.remove_from_triangles.new.dcel in
+    let due = c.remove_from_triangles.new.due.items in
+    let sound = c.remove_from_triangles.ensures.sound in (
+      (sound.triangulated, (∣ either_outside new due c.remove_from_triangles.ensures.hull ∣₁, tt)),
+      (of_loose new due sound.listed, tt),
+    )
