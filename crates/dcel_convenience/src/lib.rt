@@ -6,6 +6,7 @@
 #![tactic(auto)]
 
 mod anywhere;
+mod bordering;
 mod collapsing;
 mod cutting_off;
 mod edges;
@@ -17,6 +18,7 @@ mod taking_out;
 mod vertices;
 
 pub use anywhere::{WayOut, remove_any_vertex, way_out};
+pub use bordering::{border, border_vertices};
 pub use collapsing::{WhyNotCollapsed, can_collapse_edge, collapse_edge};
 pub use edges::is_simple;
 pub use flipping::can_flip_simple;
