@@ -1,8 +1,9 @@
 //! Functions that many users of the layer would otherwise write, over public calls of `spade_dcel`
 //! alone. [`insert_vertex`] and [`remove_vertex`] insert a vertex into a triangle and take it out
 //! again, [`collapse_edge`] moves a vertex into a neighbor, [`degree`], [`neighbors`] and
-//! [`look_around`] look around a vertex, [`can_flip_simple`] and [`can_collapse_edge`] allow the
-//! flips and collapses that keep a mesh simple, and [`is_simple`] tests whether it is.
+//! [`look_around`] look around a vertex, [`border`] lists what is around the outer face,
+//! [`can_flip_simple`] and [`can_collapse_edge`] allow the flips and collapses that keep a mesh
+//! simple, and [`is_simple`] tests whether it is.
 #![tactic(auto)]
 
 mod anywhere;
