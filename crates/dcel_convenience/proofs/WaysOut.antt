@@ -3,7 +3,7 @@ use Rattle.std.proofs.Common.{◌≡◌, ◌≢◌, ◌∙◌, inl, inr, ℕ, �
 use Rattle.std.proofs.lemmas.Bool.{cases_eq, cond_both}
 use Rattle.std.proofs.lemmas.Option.{slice_get_read}
 use Rattle.dcel_convenience.specs.Anywhere.{IsFirstToCollapse, IsLastEdge, Leaves, Removes}
-use Rattle.dcel_convenience.specs.Removing.{TakesOut, border_from}
+use Rattle.dcel_convenience.specs.Removing.{Returns, TakesOut, border_from}
 use Rattle.dcel_convenience.specs.declared.anywhere.WayOut.{WayOut}
 use Rattle.dcel_convenience.specs.declared.anywhere.WayOut.TheVariants.{Inside}
 use Rattle.dcel_convenience.specs.Simple.{IsSimple}
@@ -21,6 +21,7 @@ use Rattle.dcel_maps.proofs.Liveness.{closed-vertex_live, is_live-parts}
 use Rattle.dcel_maps.proofs.maps.Halves.{rev_or_same}
 use Rattle.dcel_maps.proofs.removal.StripSectors.{long_iff}
 use Rattle.dcel_maps.proofs.renumbering.Vertices.{can_swap_remove-out, vertex-renamed}
+use Rattle.spade_dcel.specs.declared.operations.results.RemovalResult.{RemovalResult}
 
 -- a vertex that no edge meets
 pub unconnected : (s : Shape) (v : ℕ) → s.removal ≡ Closed → v < s.vertices → ((h : ℕ) → ¬ IsOutEdge s v h) → IsUnconnected s v
@@ -84,10 +85,14 @@ module _ {V DE UE F : Type 0} where
   pub inside_leaves : (m : Mesh V DE UE F) (v h : ℕ) → IsFirstToCollapse m v h → (way : WayOut) × Leaves m v way
   inside_leaves m v h first = (Inside h, first)
 
-  pub inside_edit : (is_half : DE → Type 0) (is_edge : UE → Type 0) (is_face : F → Type 0) (old new : Mesh V DE UE F) (v h : ℕ) → IsFirstToCollapse old v h
-      → TakesOut is_half is_edge is_face (border_from old.shape h) old new (origin_of old.shape h) → Removes is_half is_edge is_face old new v
-  inside_edit is_half is_edge is_face old new v h first took = record {
+  -- and with it the vertex is removed
+  pub inside_removed : (is_half : DE → Type 0) (is_edge : UE → Type 0) (is_face : F → Type 0) (old new : Mesh V DE UE F) (v h : ℕ) (taken : RemovalResult V)
+      → IsFirstToCollapse old v h → TakesOut is_half is_edge is_face (border_from old.shape h) old new (origin_of old.shape h)
+      → (IsSimple old.shape → IsSimple new.shape) → Returns old (origin_of old.shape h) taken → Removes is_half is_edge is_face old new v taken
+  inside_removed is_half is_edge is_face old new v h taken first took simple returned = record {
     way = Inside h;
     leaves = first;
     is = subst (λ w. TakesOut is_half is_edge is_face (border_from old.shape h) old new w) first.out.start took;
+    simple = simple;
+    returned = subst (λ w. Returns old w taken) first.out.start returned;
   }

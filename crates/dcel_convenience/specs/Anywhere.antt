@@ -1,7 +1,8 @@
 -- Which vertices can be removed wherever they lie, what is left, and why others can't be.
-use Rattle.std.specs.Prelude.{◌≡◌, ◌≢◌, ℕ, ◌<◌, List, ◌∷◌, ◌++◌, length}
+use Rattle.std.specs.Prelude.{◌≡◌, ◌≢◌, ℕ, ◌<◌, List, ◌∷◌, ◌++◌, length, Result, Ok, Err}
 use Rattle.dcel_convenience.specs.Collapsing.{CanCollapse, HasRoomToCollapse}
-use Rattle.dcel_convenience.specs.Removing.{TakesOut, border_from}
+use Rattle.dcel_convenience.specs.Removing.{Returns, TakesOut, border_from}
+use Rattle.dcel_convenience.specs.Simple.{IsSimple}
 use Rattle.dcel_convenience.specs.Surrounding.{HasLongFace, IsCut, IsInside, IsOnBorder}
 use Rattle.dcel_convenience.specs.declared.anywhere.WayOut.{WayOut}
 use Rattle.dcel_convenience.specs.declared.anywhere.WayOut.TheVariants.{Alone, Border, Inside, LastEdge}
@@ -17,6 +18,7 @@ use Rattle.dcel_maps.specs.Walking.{IsOutEdge, out_edges_of}
 use Rattle.dcel_maps.specs.Words.{count_of, word_of}
 use Rattle.dcel_maps.specs.edits.Degenerate.{removed_degenerate}
 use Rattle.dcel_maps.specs.edits.Strip.{strip_cut}
+use Rattle.spade_dcel.specs.declared.operations.results.RemovalResult.{RemovalResult}
 
 -- v is an end of the only edge, and no vertex is without an edge
 pub record IsLastEdge (s : Shape) (v : ℕ) : Type 0 where
@@ -52,11 +54,13 @@ module _ {V DE UE F : Type 0} where
   IsLeft is_half is_edge is_face old new v (Border h) = new ≡ without_strip old v h
   IsLeft is_half is_edge is_face old new v LastEdge = new ≡ removed_degenerate old v
 
-  -- v is removed in its way
-  pub record Removes (is_half : DE → Type 0) (is_edge : UE → Type 0) (is_face : F → Type 0) (old new : Mesh V DE UE F) (v : ℕ) : Type 0 where
+  -- v is removed in its way and returned, and a simple mesh stays simple
+  pub record Removes (is_half : DE → Type 0) (is_edge : UE → Type 0) (is_face : F → Type 0) (old new : Mesh V DE UE F) (v : ℕ) (taken : RemovalResult V) : Type 0 where
     pub way : WayOut
     pub leaves : Leaves old v way
     pub is : IsLeft is_half is_edge is_face old new v way
+    pub simple : IsSimple old.shape → IsSimple new.shape
+    pub returned : Returns old v taken
 
   -- each reason says what is so
   abbrev pub MayNotLeave : Mesh V DE UE F → ℕ → WhyNotRemoved → Type 0
@@ -69,3 +73,8 @@ module _ {V DE UE F : Type 0} where
   MayNotLeave m v NotInside = ⊥
   MayNotLeave m v NoRoom = (h : ℕ) × IsFirstToCollapse m v h × ¬ HasRoomToCollapse m.shape h
   MayNotLeave m v OutOfMemory = (way : WayOut) × Leaves m v way
+
+  -- what removing v comes to: it is removed, or refused for a reason that is so, and then the mesh is as it was
+  abbrev pub Outcome : (DE → Type 0) → (UE → Type 0) → (F → Type 0) → Mesh V DE UE F → Mesh V DE UE F → ℕ → Result (RemovalResult V) WhyNotRemoved → Type 0
+  Outcome is_half is_edge is_face old new v (Ok taken) = Removes is_half is_edge is_face old new v taken
+  Outcome is_half is_edge is_face old new v (Err why) = MayNotLeave old v why × (new ≡ old)

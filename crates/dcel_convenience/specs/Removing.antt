@@ -1,5 +1,5 @@
--- What a vertex inside triangles leaves where it is taken out, and why it can't be.
-use Rattle.std.specs.Prelude.{◌≡◌, ◌≢◌, ℕ, ◌-◌, List, length, map, reverse}
+-- What a vertex inside triangles leaves where it is taken out, what is returned of it, and why it can't be.
+use Rattle.std.specs.Prelude.{◌≡◌, ◌≢◌, ℕ, ◌-◌, ◌==◌, List, length, map, reverse, Some, None, cond, slice_get}
 use Rattle.dcel_convenience.specs.declared.removing.WhyNotRemoved.{WhyNotRemoved}
 use Rattle.dcel_convenience.specs.declared.removing.WhyNotRemoved.TheVariants.{CutVertex, LongFace, NoRoom, NoVertex, NotInside, OutOfMemory, RemovalOpen, SecondEdge, ShortBorder}
 use Rattle.dcel_maps.specs.Borders.{IsBorderLoop}
@@ -9,6 +9,7 @@ use Rattle.dcel_maps.specs.Renumbering.{cleaned_up, vertex_taken_out}
 use Rattle.dcel_maps.specs.Shapes.{Mesh, Shape, next_of}
 use Rattle.dcel_maps.specs.Walking.{ccw_of, out_edges_of, walk_of}
 use Rattle.dcel_maps.specs.edits.Fill.{FillsHole, hole_filled}
+use Rattle.spade_dcel.specs.declared.operations.results.RemovalResult.{RemovalResult}
 
 -- what comes after the half edges out of a vertex, clockwise, up to the one after h, which starts where h ends
 abbrev pub border_from : Shape → ℕ → List ℕ
@@ -18,6 +19,11 @@ module _ {V DE UE F : Type 0} where
   -- what comes after the out edges of a vertex, clockwise, up to the one after its anchor
   abbrev pub border_round : Mesh V DE UE F → ℕ → List ℕ
   border_round m v = reverse (map (next_of m.shape) (out_edges_of m v))
+
+  -- what is returned of the vertex v: its datum, and which vertex gets its number, the last one if that is another
+  pub record Returns (old : Mesh V DE UE F) (v : ℕ) (taken : RemovalResult V) : Type 0 where
+    pub datum : slice_get old.vertex_data v ≡ Some taken.removed_vertex
+    pub moved : taken.swapped_in_vertex ≡ cond (v == old.shape.vertices - 1) None (Some (old.shape.vertices - 1))
 
   -- the hole round the vertex v, inside this border, is filled by edges that start where the last half edge of the border does; what was given
   -- up goes, and then the vertex: the last of each kind get the numbers

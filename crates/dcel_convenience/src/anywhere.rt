@@ -1,14 +1,11 @@
 //! Removing a vertex wherever it lies.
 
-ghost use Rattle.std.specs.Prelude.{ℕ, ◌≡◌, ◌↔◌, ◌-◌, ◌<◌, ◌==◌, IfErr, IfOk, IsTrue, MatchOption, OnErr, OnOk, Some, None, cond, slice_get};
-ghost use Rattle.dcel_convenience.specs.Anywhere.{IsFirstToCollapse, IsLastEdge, Leaves, MayNotLeave, Removes};
+ghost use Rattle.std.specs.Prelude.{ℕ, ◌≡◌, ◌↔◌, ◌<◌, IfErr, IfOk, IsTrue, MatchOption};
+ghost use Rattle.dcel_convenience.specs.Anywhere.{IsFirstToCollapse, IsLastEdge, Leaves, MayNotLeave, Outcome, Removes};
 ghost use Rattle.dcel_convenience.specs.Collapsing.{CanCollapse};
-ghost use Rattle.dcel_convenience.specs.Simple.{IsSimple};
 ghost use Rattle.dcel_convenience.specs.Surrounding.{IsInside, IsOnBorder};
 ghost use Rattle.dcel_maps.specs.Conditions.{IsUnconnected};
-ghost use Rattle.dcel_maps.specs.edits.Degenerate.{removed_degenerate};
 ghost use Rattle.dcel_maps.specs.Removals.{Closed};
-ghost use Rattle.dcel_maps.specs.Renumbering.{vertex_taken_out};
 ghost use Rattle.dcel_maps.specs.Shapes.{IsLive, IsMesh, next_of};
 ghost use Rattle.dcel_maps.specs.Strips.{IsStripAround};
 ghost use Rattle.dcel_maps.specs.Walking.{IsOutEdge};
@@ -48,6 +45,10 @@ pub enum WayOut {
 ///   new element. That includes a vertex with one edge or one triangle.
 /// - Of a mesh that is a single edge, the edge goes too.
 ///
+/// A vertex with two edges stays if the faces on both sides are inner: no call merges its edges into
+/// one. Between two triangles, edges join its neighbors twice already ([`SecondEdge`]); otherwise it
+/// is the corner of a long face ([`LongFace`]).
+///
 /// A simple mesh stays simple. The last edges, faces and vertex get the numbers that become free,
 /// and the result says whether a vertex did.
 ///
@@ -55,6 +56,8 @@ pub enum WayOut {
 /// was. `alloc` is for the list of half edges around the vertex.
 ///
 /// [`disconnect_edge_strip`]: spade_dcel::operations::disconnect_edge_strip
+/// [`SecondEdge`]: WhyNotRemoved::SecondEdge
+/// [`LongFace`]: WhyNotRemoved::LongFace
 pub fn remove_any_vertex<
     V,
     DE: Default + Drop,
@@ -67,13 +70,7 @@ pub fn remove_any_vertex<
     alloc: B,
     vertex: FixedVertexHandle,
 ) -> Result<RemovalResult<V>, WhyNotRemoved>
-    ensures edit { OnOk result (Removes DE.is_default UE.is_default F.is_default dcel.old dcel.new vertex) }
-    ensures simple { IsSimple dcel.old.shape → OnOk result (IsSimple dcel.new.shape) }
-    ensures datum { IfOk result (λ taken. slice_get dcel.old.vertex_data vertex ≡ Some taken.removed_vertex) }
-    ensures moved { IfOk result (λ taken. taken.swapped_in_vertex
-        ≡ cond (vertex == dcel.old.shape.vertices - 1) None (Some (dcel.old.shape.vertices - 1))) }
-    ensures why { IfErr result (MayNotLeave dcel.old vertex) }
-    ensures refused { OnErr result (dcel.new ≡ dcel.old) }
+    ensures outcome { Outcome DE.is_default UE.is_default F.is_default dcel.old dcel.new vertex result }
     ensures mesh { IsMesh dcel.new }
 {
     every_mesh(dcel);
@@ -196,13 +193,7 @@ fn remove_by<
     way: WayOut,
 ) -> Result<RemovalResult<V>, WhyNotRemoved>
     requires { Leaves dcel.old vertex way }
-    ensures edit { OnOk result (Removes DE.is_default UE.is_default F.is_default dcel.old dcel.new vertex) }
-    ensures simple { IsSimple dcel.old.shape → OnOk result (IsSimple dcel.new.shape) }
-    ensures datum { IfOk result (λ taken. slice_get dcel.old.vertex_data vertex ≡ Some taken.removed_vertex) }
-    ensures moved { IfOk result (λ taken. taken.swapped_in_vertex
-        ≡ cond (vertex == dcel.old.shape.vertices - 1) None (Some (dcel.old.shape.vertices - 1))) }
-    ensures why { IfErr result (MayNotLeave dcel.old vertex) }
-    ensures refused { OnErr result (dcel.new ≡ dcel.old) }
+    ensures outcome { Outcome DE.is_default UE.is_default F.is_default dcel.old dcel.new vertex result }
     ensures mesh { IsMesh dcel.new }
 {
     every_mesh(dcel);
@@ -215,17 +206,13 @@ fn remove_by<
 }
 
 // Removes a vertex that no edge meets.
-fn remove_alone<V, DE, UE, F, A: Allocator>(
+fn remove_alone<V, DE: Default, UE: Default, F: Default, A: Allocator>(
     dcel: &mut Dcel<V, DE, UE, F, A>,
     vertex: FixedVertexHandle,
 ) -> RemovalResult<V>
     requires closed { dcel.old.shape.removal ≡ Closed }
     requires bare { IsUnconnected dcel.old.shape vertex }
-    ensures edit { dcel.new ≡ vertex_taken_out dcel.old vertex }
-    ensures simple { IsSimple dcel.old.shape → IsSimple dcel.new.shape }
-    ensures datum { slice_get dcel.old.vertex_data vertex ≡ Some result.removed_vertex }
-    ensures moved { result.swapped_in_vertex
-        ≡ cond (vertex == dcel.old.shape.vertices - 1) None (Some (dcel.old.shape.vertices - 1)) }
+    ensures removed { Removes DE.is_default UE.is_default F.is_default dcel.old dcel.new vertex result }
     ensures mesh { IsMesh dcel.new }
 {
     every_mesh(dcel);
@@ -233,16 +220,12 @@ fn remove_alone<V, DE, UE, F, A: Allocator>(
 }
 
 // Removes an end of the last edge with this edge.
-fn remove_last_edge<V, DE: Drop, UE: Drop, F, A: Allocator>(
+fn remove_last_edge<V, DE: Default + Drop, UE: Default + Drop, F: Default, A: Allocator>(
     dcel: &mut Dcel<V, DE, UE, F, A>,
     vertex: FixedVertexHandle,
 ) -> RemovalResult<V>
     requires { IsLastEdge dcel.old.shape vertex }
-    ensures edit { dcel.new ≡ removed_degenerate dcel.old vertex }
-    ensures simple { IsSimple dcel.new.shape }
-    ensures datum { slice_get dcel.old.vertex_data vertex ≡ Some result.removed_vertex }
-    ensures moved { result.swapped_in_vertex
-        ≡ cond (vertex == dcel.old.shape.vertices - 1) None (Some (dcel.old.shape.vertices - 1)) }
+    ensures removed { Removes DE.is_default UE.is_default F.is_default dcel.old dcel.new vertex result }
     ensures mesh { IsMesh dcel.new }
 {
     every_mesh(dcel);
@@ -265,13 +248,7 @@ fn remove_at_border<
 ) -> Result<RemovalResult<V>, WhyNotRemoved>
     requires closed { dcel.old.shape.removal ≡ Closed }
     requires around { IsStripAround dcel.old.shape vertex outside }
-    ensures edit { OnOk result (Removes DE.is_default UE.is_default F.is_default dcel.old dcel.new vertex) }
-    ensures simple { IsSimple dcel.old.shape → OnOk result (IsSimple dcel.new.shape) }
-    ensures datum { IfOk result (λ taken. slice_get dcel.old.vertex_data vertex ≡ Some taken.removed_vertex) }
-    ensures moved { IfOk result (λ taken. taken.swapped_in_vertex
-        ≡ cond (vertex == dcel.old.shape.vertices - 1) None (Some (dcel.old.shape.vertices - 1))) }
-    ensures why { IfErr result (MayNotLeave dcel.old vertex) }
-    ensures refused { OnErr result (dcel.new ≡ dcel.old) }
+    ensures outcome { Outcome DE.is_default UE.is_default F.is_default dcel.old dcel.new vertex result }
     ensures mesh { IsMesh dcel.new }
 {
     let Ok(taken) = cut_off(dcel, alloc, vertex, outside) else {
@@ -296,13 +273,7 @@ fn remove_inside<
     half: FixedDirectedEdgeHandle,
 ) -> Result<RemovalResult<V>, WhyNotRemoved>
     requires { IsFirstToCollapse dcel.old vertex half }
-    ensures edit { OnOk result (Removes DE.is_default UE.is_default F.is_default dcel.old dcel.new vertex) }
-    ensures simple { IsSimple dcel.old.shape → OnOk result (IsSimple dcel.new.shape) }
-    ensures datum { IfOk result (λ taken. slice_get dcel.old.vertex_data vertex ≡ Some taken.removed_vertex) }
-    ensures moved { IfOk result (λ taken. taken.swapped_in_vertex
-        ≡ cond (vertex == dcel.old.shape.vertices - 1) None (Some (dcel.old.shape.vertices - 1))) }
-    ensures why { IfErr result (MayNotLeave dcel.old vertex) }
-    ensures refused { OnErr result (dcel.new ≡ dcel.old) }
+    ensures outcome { Outcome DE.is_default UE.is_default F.is_default dcel.old dcel.new vertex result }
     ensures mesh { IsMesh dcel.new }
 {
     match collapse_edge(dcel, alloc, half) {

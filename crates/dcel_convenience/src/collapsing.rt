@@ -1,8 +1,8 @@
 //! Collapsing an edge: its start goes, and what met the start then meets its end.
 
-ghost use Rattle.std.specs.Prelude.{ℕ, ◌≡◌, ◌↔◌, ◌-◌, ◌==◌, ◌<◌, IfErr, IfOk, IfSome, IsTrue, None, OnErr, OnOk, Some, cond, slice_get};
+ghost use Rattle.std.specs.Prelude.{ℕ, ◌≡◌, ◌↔◌, ◌<◌, IfErr, IfOk, IfSome, IsTrue, None, OnErr, OnOk};
 ghost use Rattle.dcel_convenience.specs.Collapsing.{AreJoinedBesides, CanCollapse, HasRoomToCollapse, MayNotCollapse, MeetsLinkCondition, StartsInDisc, corner_of};
-ghost use Rattle.dcel_convenience.specs.Removing.{TakesOut, border_from};
+ghost use Rattle.dcel_convenience.specs.Removing.{Returns, TakesOut, border_from};
 ghost use Rattle.dcel_convenience.specs.Simple.{IsOnly, IsSimple};
 ghost use Rattle.dcel_maps.specs.Shapes.{IsLive, IsMesh, end_of, origin_of};
 ghost use Rattle.dcel_maps.specs.Walking.{IsOutEdge};
@@ -86,9 +86,7 @@ pub fn collapse_edge<
     ensures edit { let old = dcel.old.shape in
         OnOk result (TakesOut DE.is_default UE.is_default F.is_default (border_from old half) dcel.old dcel.new (origin_of old half)) }
     ensures simple { IsSimple dcel.old.shape → OnOk result (IsSimple dcel.new.shape) }
-    ensures datum { IfOk result (λ taken. slice_get dcel.old.vertex_data (origin_of dcel.old.shape half) ≡ Some taken.removed_vertex) }
-    ensures moved { IfOk result (λ taken. taken.swapped_in_vertex
-        ≡ cond (origin_of dcel.old.shape half == dcel.old.shape.vertices - 1) None (Some (dcel.old.shape.vertices - 1))) }
+    ensures returned { IfOk result (Returns dcel.old (origin_of dcel.old.shape half)) }
     ensures why { IfErr result (MayNotCollapse dcel.old.shape half) }
     ensures refused { OnErr result (dcel.new ≡ dcel.old) }
     ensures mesh { IsMesh dcel.new }

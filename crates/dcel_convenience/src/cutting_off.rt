@@ -1,7 +1,8 @@
 //! Cutting a vertex off the border, with the triangles around it.
 
-ghost use Rattle.std.specs.Prelude.{◌≡◌, ◌-◌, ◌==◌, IfOk, OnErr, OnOk, Some, None, cond, slice_get};
+ghost use Rattle.std.specs.Prelude.{◌≡◌, IfOk, OnErr, OnOk};
 ghost use Rattle.dcel_convenience.specs.Anywhere.{without_strip};
+ghost use Rattle.dcel_convenience.specs.Removing.{Returns};
 ghost use Rattle.dcel_convenience.specs.Simple.{IsSimple};
 ghost use Rattle.dcel_maps.specs.Removals.{Closed};
 ghost use Rattle.dcel_maps.specs.Shapes.{IsLive, IsMesh};
@@ -30,9 +31,7 @@ pub(crate) fn cut_off<V, DE: Drop, UE: Drop, F: Drop, A: Allocator + Clone, B: A
     requires around { IsStripAround dcel.old.shape vertex outside }
     ensures edit { OnOk result (dcel.new ≡ without_strip dcel.old vertex outside) }
     ensures simple { IsSimple dcel.old.shape → OnOk result (IsSimple dcel.new.shape) }
-    ensures datum { IfOk result (λ taken. slice_get dcel.old.vertex_data vertex ≡ Some taken.removed_vertex) }
-    ensures moved { IfOk result (λ taken. taken.swapped_in_vertex
-        ≡ cond (vertex == dcel.old.shape.vertices - 1) None (Some (dcel.old.shape.vertices - 1))) }
+    ensures returned { IfOk result (Returns dcel.old vertex) }
     ensures refused { OnErr result (dcel.new ≡ dcel.old) }
     ensures mesh { IsMesh dcel.new }
 {

@@ -1,11 +1,13 @@
 //! Functions that many users of the layer would otherwise write, over public calls of `spade_dcel`
 //! alone. [`insert_vertex`] and [`remove_vertex`] insert a vertex into a triangle and take it out
 //! again, [`collapse_edge`] moves a vertex into a neighbor, [`degree`], [`neighbors`] and
-//! [`look_around`] look around a vertex, [`can_flip_simple`] and [`can_collapse_edge`] allow the
-//! flips and collapses that keep a mesh simple, and [`is_simple`] tests whether it is.
+//! [`look_around`] look around a vertex, [`border`] lists what is around the outer face,
+//! [`can_flip_simple`] and [`can_collapse_edge`] allow the flips and collapses that keep a mesh
+//! simple, and [`is_simple`] tests whether it is.
 #![tactic(auto)]
 
 mod anywhere;
+mod bordering;
 mod collapsing;
 mod cutting_off;
 mod edges;
@@ -17,6 +19,7 @@ mod taking_out;
 mod vertices;
 
 pub use anywhere::{WayOut, remove_any_vertex, way_out};
+pub use bordering::{border, border_vertices};
 pub use collapsing::{WhyNotCollapsed, can_collapse_edge, collapse_edge};
 pub use edges::is_simple;
 pub use flipping::can_flip_simple;

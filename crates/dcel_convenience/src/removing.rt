@@ -1,7 +1,7 @@
 //! Removing a vertex inside triangles, and filling the hole.
 
-ghost use Rattle.std.specs.Prelude.{◌≡◌, ◌-◌, ◌==◌, IfErr, IfOk, OnErr, OnOk, Some, None, cond, slice_get};
-ghost use Rattle.dcel_convenience.specs.Removing.{CanRemoveVertex, MayNotRemove, TakesOut, border_round};
+ghost use Rattle.std.specs.Prelude.{◌≡◌, IfErr, IfOk, OnErr, OnOk};
+ghost use Rattle.dcel_convenience.specs.Removing.{CanRemoveVertex, MayNotRemove, Returns, TakesOut, border_round};
 ghost use Rattle.dcel_maps.specs.Shapes.{IsMesh};
 
 use crate::taking_out::{border_from, take_out};
@@ -86,9 +86,7 @@ pub fn remove_vertex<
 ) -> Result<RemovalResult<V>, WhyNotRemoved>
     ensures can { OnOk result (CanRemoveVertex dcel.old vertex) }
     ensures edit { OnOk result (TakesOut DE.is_default UE.is_default F.is_default (border_round dcel.old vertex) dcel.old dcel.new vertex) }
-    ensures datum { IfOk result (λ taken. slice_get dcel.old.vertex_data vertex ≡ Some taken.removed_vertex) }
-    ensures moved { IfOk result (λ taken. taken.swapped_in_vertex
-        ≡ cond (vertex == dcel.old.shape.vertices - 1) None (Some (dcel.old.shape.vertices - 1))) }
+    ensures returned { IfOk result (Returns dcel.old vertex) }
     ensures why { IfErr result (MayNotRemove dcel.old vertex) }
     ensures refused { OnErr result (dcel.new ≡ dcel.old) }
     ensures mesh { IsMesh dcel.new }

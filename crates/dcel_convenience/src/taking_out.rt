@@ -1,7 +1,7 @@
 //! Taking a vertex out of triangles, and filling the hole from a chosen corner.
 
-ghost use Rattle.std.specs.Prelude.{◌≡◌, ◌-◌, ◌==◌, IfOk, OnErr, OnOk, Some, None, cond, length, slice_get};
-ghost use Rattle.dcel_convenience.specs.Removing.{TakesOut, border_from};
+ghost use Rattle.std.specs.Prelude.{◌≡◌, ◌-◌, IfOk, OnErr, OnOk, length};
+ghost use Rattle.dcel_convenience.specs.Removing.{Returns, TakesOut, border_from};
 ghost use Rattle.dcel_maps.specs.Borders.{IsBorderLoop};
 ghost use Rattle.dcel_maps.specs.Conditions.{HasRoom};
 ghost use Rattle.dcel_maps.specs.Removals.{Closed};
@@ -55,9 +55,7 @@ pub(crate) fn take_out<
     requires inside { IsBorderLoop dcel.old.shape border.items vertex }
     requires room { HasRoom dcel.old.shape 0 (length border.items - 3) (length border.items - 2) }
     ensures edit { OnOk result (TakesOut DE.is_default UE.is_default F.is_default border.items dcel.old dcel.new vertex) }
-    ensures datum { IfOk result (λ taken. slice_get dcel.old.vertex_data vertex ≡ Some taken.removed_vertex) }
-    ensures moved { IfOk result (λ taken. taken.swapped_in_vertex
-        ≡ cond (vertex == dcel.old.shape.vertices - 1) None (Some (dcel.old.shape.vertices - 1))) }
+    ensures returned { IfOk result (Returns dcel.old vertex) }
     ensures refused { OnErr result (dcel.new ≡ dcel.old) }
     ensures mesh { IsMesh dcel.new }
 {

@@ -29,7 +29,7 @@ module _ {V DE UE F : Type 0} (m : Mesh V DE UE F) where
 
   module _ (closed : m.shape.removal ≡ Closed) where
     -- each face is live
-    live_face : (f : ℕ) → f < face_count m.shape → face_is_live m.shape f ≡ true
+    pub live_face : (f : ℕ) → f < face_count m.shape → face_is_live m.shape f ≡ true
     live_face f below = is_live-from (gives_up_face m.shape.removal) (face_count m.shape) f below (rw closed (gives_up_face-closed f))
 
     -- so the corners of the live ones are the corners of all

@@ -9,6 +9,8 @@ pub mod FaceWords
 pub mod Ranges
 pub mod Defaulted
 mod ListedAnchors
+pub mod ListedData
+pub mod ListedTriangles
 pub mod Placed
 pub mod SameEnds
 pub mod Refusals

@@ -3,6 +3,7 @@ pub mod Corners
 pub mod Chains
 pub mod Numbering
 pub mod FaceCorners
+pub mod Triangles
 pub mod Meshes
 pub mod Simple
 pub mod Reasons

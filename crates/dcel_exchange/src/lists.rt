@@ -1,6 +1,6 @@
-//! Links and anchors as lists, and a mesh constructed again from them.
+//! Links, anchors and data as lists, and a mesh constructed again from them.
 
-ghost use Rattle.std.specs.Prelude.{◌≡◌, ℕ, IfErr, IfOk, length};
+ghost use Rattle.std.specs.Prelude.{◌≡◌, ◌+◌, ◌*◌, ◌<◌, ℕ, IfErr, IfOk, Some, length, slice_get};
 ghost use Rattle.std.specs.Option.{option_map};
 ghost use Rattle.dcel_exchange.specs.Links.{lists_claim};
 ghost use Rattle.dcel_links.specs.Claims.{claim_of};
@@ -12,10 +12,13 @@ ghost use Rattle.spade_dcel.specs.Handles.{number_of};
 
 use crate::steps::links;
 use spade_dcel::dcel::Dcel;
-use spade_dcel::handles::DirectedEdgeHandle;
+use spade_dcel::handles::{
+    DirectedEdgeHandle, FixedFaceHandle, FixedUndirectedEdgeHandle, FixedVertexHandle,
+    PossiblyOuterTag,
+};
 use spade_dcel::laws::every_mesh;
 use spade_dcel::operations::{
-    Anchors, Links, LinksError, MeshData, RefusedLinks, from_anchored_links,
+    Anchors, EdgeData, Links, LinksError, MeshData, RefusedLinks, from_anchored_links,
 };
 use std::alloc::{AllocError, Allocator, Global};
 
@@ -145,6 +148,98 @@ fn anchor<V, DE, UE, F, A: Allocator>(
         Some(edge) => Some(edge.fix().index() as u32),
         None => None,
     }
+}
+
+/// Returns the data of a mesh as lists, by number, as [`with_data`] takes them.
+///
+/// What an open removal has given up still has data. If memory runs out it returns `AllocError`.
+pub fn data_lists<
+    V: Copy + Drop,
+    DE: Copy + Drop,
+    UE: Copy + Drop,
+    F: Copy + Drop,
+    A: Allocator,
+    B: Allocator + Clone,
+>(alloc: B, dcel: &Dcel<V, DE, UE, F, A>) -> Result<MeshData<V, DE, UE, F, B>, AllocError>
+    ensures vertices { IfOk result (λ lists. lists.vertices.items ≡ dcel.now.vertex_data) }
+    ensures halves { IfOk result (λ lists. halves_data lists.edges.items ≡ dcel.now.directed_data) }
+    ensures edges { IfOk result (λ lists. edges_data lists.edges.items ≡ dcel.now.undirected_data) }
+    ensures faces { IfOk result (λ lists. lists.faces.items ≡ dcel.now.face_data) }
+{
+    let vertices = list_vertex_data(alloc.clone()?, dcel)?;
+    let edges = list_edge_data(alloc.clone()?, dcel)?;
+    let faces = list_face_data(alloc, dcel)?;
+    Ok(MeshData {
+        vertices,
+        edges,
+        faces,
+    })
+}
+
+// Lists the data of the vertices.
+fn list_vertex_data<V: Copy + Drop, DE, UE, F, A: Allocator, B: Allocator>(
+    alloc: B,
+    dcel: &Dcel<V, DE, UE, F, A>,
+) -> Result<Vec<V, B>, AllocError>
+    ensures { IfOk result (λ list. list.items ≡ dcel.now.vertex_data) }
+{
+    every_mesh(dcel);
+    let mut list = Vec::new(alloc);
+    for number in 0..dcel.num_vertices() {
+        list.push(*dcel.vertex_data(FixedVertexHandle::new(number)))?;
+    }
+    Ok(list)
+}
+
+// Lists the data of the edges, with those of their halves.
+fn list_edge_data<V, DE: Copy + Drop, UE: Copy + Drop, F, A: Allocator, B: Allocator>(
+    alloc: B,
+    dcel: &Dcel<V, DE, UE, F, A>,
+) -> Result<Vec<EdgeData<DE, UE>, B>, AllocError>
+    ensures halves { IfOk result (λ list. halves_data list.items ≡ dcel.now.directed_data) }
+    ensures edges { IfOk result (λ list. edges_data list.items ≡ dcel.now.undirected_data) }
+{
+    every_mesh(dcel);
+    let mut list = Vec::new(alloc);
+    for number in 0..dcel.num_undirected_edges() {
+        list.push(data_of(dcel, FixedUndirectedEdgeHandle::new(number)))?;
+    }
+    Ok(list)
+}
+
+// Returns the data of an edge and of its two halves.
+fn data_of<V, DE: Copy, UE: Copy, F, A: Allocator>(
+    dcel: &Dcel<V, DE, UE, F, A>,
+    edge: FixedUndirectedEdgeHandle,
+) -> EdgeData<DE, UE>
+    requires { edge < dcel.now.shape.edges }
+    ensures normalized { slice_get dcel.now.directed_data (2 * edge) ≡ Some result.normalized }
+    ensures reversed { slice_get dcel.now.directed_data (2 * edge + 1) ≡ Some result.reversed }
+    ensures undirected { slice_get dcel.now.undirected_data edge ≡ Some result.undirected }
+{
+    every_mesh(dcel);
+    let [normalized, reversed] = edge.directed_edges();
+    EdgeData {
+        normalized: *dcel.directed_edge_data(normalized),
+        reversed: *dcel.directed_edge_data(reversed),
+        undirected: *dcel.undirected_edge_data(edge),
+    }
+}
+
+// Lists the data of the faces.
+fn list_face_data<V, DE, UE, F: Copy + Drop, A: Allocator, B: Allocator>(
+    alloc: B,
+    dcel: &Dcel<V, DE, UE, F, A>,
+) -> Result<Vec<F, B>, AllocError>
+    ensures { IfOk result (λ list. list.items ≡ dcel.now.face_data) }
+{
+    every_mesh(dcel);
+    let mut list = Vec::new(alloc);
+    for number in 0..dcel.num_faces() {
+        let face: FixedFaceHandle<PossiblyOuterTag> = FixedFaceHandle::new(number);
+        list.push(*dcel.face_data(face))?;
+    }
+    Ok(list)
 }
 
 /// Constructs the same mesh over other data, which may be of other types.

@@ -11,9 +11,9 @@ use dcel_bench::refusing::{Memory, Refusals, Refusing};
 use dcel_bench::require;
 use dcel_bench::snapshots::{Snapshot, snapshot_of};
 use dcel_convenience::{
-    Surroundings, WhyNotCollapsed, WhyNotInserted, WhyNotRemoved, can_flip_simple, collapse_edge,
-    degree, degrees, insert_vertex, is_simple, look_around, neighbors, remove_any_vertex,
-    remove_vertex,
+    Surroundings, WhyNotCollapsed, WhyNotInserted, WhyNotRemoved, border, border_vertices,
+    can_flip_simple, collapse_edge, degree, degrees, insert_vertex, is_simple, look_around,
+    neighbors, remove_any_vertex, remove_vertex,
 };
 use spade_dcel::handles::{FixedDirectedEdgeHandle, FixedVertexHandle};
 use spade_dcel::operations::flip_cw;
@@ -259,6 +259,8 @@ pub enum Call {
     Collapse,
     Neighbors,
     Degrees,
+    Border,
+    BorderVertices,
 }
 
 /// Inserts a vertex. Returns whether there was memory; the datum comes back if there was none.
@@ -310,6 +312,8 @@ fn is_done<'a>(dcel: &mut Mesh<Memory<'a>>, call: Call, memory: Memory<'a>) -> R
         Call::Collapse => is_collapsed(dcel, memory),
         Call::Neighbors => has_neighbors(dcel, memory),
         Call::Degrees => Ok(degrees(memory, dcel).is_ok()),
+        Call::Border => Ok(border(memory, dcel).is_ok()),
+        Call::BorderVertices => Ok(border_vertices(memory, dcel).is_ok()),
     }
 }
 
@@ -394,5 +398,7 @@ fn calls_are_refused_memory(rt: HostRuntime) -> Result<(), Fail> {
     refuse_each(Call::Remove, "remove_vertex", rt.alloc())?;
     refuse_each(Call::Collapse, "collapse_edge", rt.alloc())?;
     refuse_each(Call::Neighbors, "neighbors", rt.alloc())?;
-    refuse_each(Call::Degrees, "degrees", rt.alloc())
+    refuse_each(Call::Degrees, "degrees", rt.alloc())?;
+    refuse_each(Call::Border, "border", rt.alloc())?;
+    refuse_each(Call::BorderVertices, "border_vertices", rt.alloc())
 }

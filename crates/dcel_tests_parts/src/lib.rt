@@ -17,6 +17,8 @@ mod handles;
 #[cfg(test)]
 mod links;
 #[cfg(test)]
+mod listing;
+#[cfg(test)]
 mod memory;
 #[cfg(test)]
 mod on_meshes;

@@ -9,7 +9,8 @@ use dcel_bench::refusing::{Memory, Refusals, Refusing};
 use dcel_bench::require;
 use dcel_exchange::ClosedFacesError::Others;
 use dcel_exchange::{
-    ClosedFacesError, FacesError, RefusedFaces, anchor_lists, face_lists, link_lists, with_data,
+    ClosedFacesError, FacesError, RefusedFaces, anchor_lists, data_lists, face_lists,
+    face_triangles, link_lists, with_data,
 };
 use spade_dcel::dcel::{Dcel, RemovalState};
 use std::alloc::Global;
@@ -142,12 +143,21 @@ enum Call {
     LinkLists,
     AnchorLists,
     FaceLists,
+    FaceTriangles,
+    DataLists,
     WithData,
 }
 
-use Call::{AnchorLists, FaceLists, LinkLists, WithData};
+use Call::{AnchorLists, DataLists, FaceLists, FaceTriangles, LinkLists, WithData};
 
-const CALLS: [Call; 4] = [LinkLists, AnchorLists, FaceLists, WithData];
+const CALLS: [Call; 6] = [
+    LinkLists,
+    AnchorLists,
+    FaceLists,
+    FaceTriangles,
+    DataLists,
+    WithData,
+];
 
 /// Checks that edges have the same data.
 fn check_edges(data: &Data<Memory>, wanted: &Data<Global>) -> Result<(), Fail> {
@@ -222,6 +232,8 @@ fn is_made(
         LinkLists => Ok(link_lists(memory, dcel).is_ok()),
         AnchorLists => Ok(anchor_lists(memory, dcel).is_ok()),
         FaceLists => Ok(face_lists(memory, dcel).is_ok()),
+        FaceTriangles => Ok(face_triangles(memory, dcel).is_ok()),
+        DataLists => Ok(data_lists(memory, dcel).is_ok()),
         WithData => is_made_again(dcel, memory, refusals, alloc),
     }
 }

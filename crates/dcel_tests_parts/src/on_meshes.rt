@@ -1,8 +1,9 @@
 //! Meshes that are made for a check, which borrows them.
 
+use crate::faces::{Faces, vectors_of};
 use dcel_bench::lines::grown;
 use dcel_bench::meshes::Mesh;
-use dcel_exchange::from_triangles;
+use dcel_exchange::{from_faces, from_triangles};
 use std::alloc::{AllocError, Allocator, Global};
 use std::test::Fail;
 
@@ -61,9 +62,33 @@ pub fn on_triangles<F: FnOnce(&mut Mesh, Global) -> Result<(), Fail>>(
     on_made(mesh_of(triangles, vertices, alloc), alloc, check)
 }
 
+/// Makes a mesh of faces over so many vertices.
+fn over(faces: &[Vec<u32>], vertices: u32, alloc: Global) -> Result<Mesh, Fail> {
+    let data = data(vertices, alloc)?;
+    from_faces(alloc, data, faces).map_err(|_| Fail::new("no mesh of faces is made"))
+}
+
+/// Makes a mesh of faces, by their corners.
+fn of_faces(faces: Faces, vertices: u32, alloc: Global) -> Result<Mesh, Fail> {
+    let vectors = vectors_of(faces, alloc)?;
+    over(&vectors, vertices, alloc)
+}
+
+/// Has a mesh of faces over so many vertices checked.
+pub fn on_faces<F: FnOnce(&mut Mesh, Global) -> Result<(), Fail>>(
+    faces: Faces,
+    vertices: u32,
+    alloc: Global,
+    check: F,
+) -> Result<(), Fail>
+    requires { F.IsAlwaysCallable check }
+{
+    on_made(of_faces(faces, vertices, alloc), alloc, check)
+}
+
 /// Lists so many triangles at vertex 0, one after another; if they are closed, the last one meets
 /// the first.
-fn spokes<A: Allocator>(
+pub fn spokes<A: Allocator>(
     count: u32,
     is_closed: bool,
     memory: A,

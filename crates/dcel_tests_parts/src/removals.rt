@@ -1,13 +1,12 @@
 //! Vertices that are removed wherever they lie, and those that can't be.
 
 use crate::convenience::{Call, check_unchanged, refuse_each};
-use crate::faces::vectors_of;
-use crate::on_meshes::{data, on_fan, on_grown, on_made};
+use crate::faces::Faces;
+use crate::on_meshes::{on_faces, on_fan, on_grown};
 use dcel_bench::checks::{holds, same};
 use dcel_bench::meshes::{Mesh, counts, vertex};
 use dcel_bench::snapshots::{Snapshot, snapshot_of};
 use dcel_convenience::{WayOut, WhyNotRemoved, is_simple, remove_any_vertex, way_out};
-use dcel_exchange::from_faces;
 use std::alloc::Global;
 use std::test::Fail;
 
@@ -175,23 +174,22 @@ fn other_vertices_stay(rt: HostRuntime) -> Result<(), Fail> {
     Ok(())
 }
 
-/// Makes a mesh of faces over four vertices.
-fn over_four(faces: &[Vec<u32>], alloc: Global) -> Result<Mesh, Fail> {
-    let data = data(4, alloc)?;
-    from_faces(alloc, data, faces).map_err(|_| Fail::new("no mesh of faces is made"))
-}
-
-/// A face of four corners.
-fn square(alloc: Global) -> Result<Mesh, Fail> {
-    let faces = vectors_of(&[&[0, 1, 2, 3]], alloc)?;
-    over_four(&faces, alloc)
-}
+/// Faces, how many vertices they are over, and a vertex of one that is no triangle.
+const LONG: [(Faces, u32, u32); 3] = [
+    (&[&[0, 1, 2, 3]], 4, 2),
+    // Vertices with two edges, between two squares, and between a triangle and a square.
+    (&[&[0, 1, 2, 3], &[2, 1, 0, 4]], 5, 1),
+    (&[&[0, 1, 2], &[2, 1, 0, 3]], 4, 1),
+];
 
 #[test]
 fn corners_of_long_faces_stay(rt: HostRuntime) -> Result<(), Fail> {
-    on_made(square(rt.alloc()), rt.alloc(), |dcel, alloc| {
-        check_refused(dcel, 2, WhyNotRemoved::LongFace, alloc)
-    })
+    for (faces, vertices, number) in &LONG {
+        on_faces(faces, *vertices, rt.alloc(), |dcel, alloc| {
+            check_refused(dcel, *number, WhyNotRemoved::LongFace, alloc)
+        })?;
+    }
+    Ok(())
 }
 
 #[test]

@@ -1,4 +1,5 @@
-use Rattle.std.proofs.Common.{length, refl, arith}
+use Rattle.std.proofs.Common.{length, refl, arith, subst}
+use Rattle.dcel_convenience.specs.Removing.{Returns}
 use Rattle.dcel_convenience.proofs.Collapsed.{border_at, border_is_loop, room_at, taken_at}
 use Rattle.dcel_convenience.proofs.Removed.{room_is}
 use Rattle.dcel_convenience.proofs.StaysSimple.{stays_simple}
@@ -48,3 +49,6 @@ returns-clause-simple g c =
     stays_simple g.DE.Default.is_default g.UE.Default.is_default g.F.Default.is_default m c.take_out.new.dcel c.every_mesh.ensures h (c.in_default.ensures.can refl) room
     (taken_at g.DE.Default.is_default g.UE.Default.is_default g.F.Default.is_default m c.take_out.new.dcel h c.start_of-vertex.result c.in-Ok.border.items is c.start_of-vertex.ensures.start
     c.in-Ok-take_out.ensures.edit)
+
+pub returns-clause-returned : goal.returns-clause-returned
+returns-clause-returned g c = subst (λ v. Returns c.args.dcel.now v c.in-Ok-take_out.taken) c.start_of-vertex.ensures.start c.in-Ok-take_out.ensures.returned

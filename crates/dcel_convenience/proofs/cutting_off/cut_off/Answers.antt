@@ -16,16 +16,13 @@ returns-clause-simple g c =
     c.in-Ok-disconnect_edge_strip.ensures.edit c.cleanup_isolated_vertex.ensures.edit c.swap_remove_vertex.new.dcel c.swap_remove_vertex.ensures.edit
     c.in-Ok-disconnect_edge_strip.ensures.mesh c.cleanup_isolated_vertex.ensures.mesh c.requires.closed simple
 
-pub returns-clause-datum : goal.returns-clause-datum
-returns-clause-datum g c =
+pub returns-clause-returned : goal.returns-clause-returned
+returns-clause-returned g c =
     let m = c.args.dcel.now in
     let are = strip_told m c.directed_edge.result.dcel.now c.args.outside c.directed_edge.result.number c.in-Ok.strip.items c.in-Ok.ensures c.directed_edge.ensures.mesh c.directed_edge.ensures.number in
-    cut_datum m c.disconnect_edge_strip.new.dcel c.cleanup_isolated_vertex.new.dcel c.every_mesh.ensures c.args.vertex c.args.outside c.requires.around c.in-Ok.strip.items are
-    c.in-Ok-disconnect_edge_strip.ensures.edit c.cleanup_isolated_vertex.ensures.edit c.swap_remove_vertex.result.removed_vertex c.swap_remove_vertex.ensures.datum
-
-pub returns-clause-moved : goal.returns-clause-moved
-returns-clause-moved g c =
-    let m = c.args.dcel.now in
-    let are = strip_told m c.directed_edge.result.dcel.now c.args.outside c.directed_edge.result.number c.in-Ok.strip.items c.in-Ok.ensures c.directed_edge.ensures.mesh c.directed_edge.ensures.number in
-    cut_moved m c.disconnect_edge_strip.new.dcel c.cleanup_isolated_vertex.new.dcel c.every_mesh.ensures c.args.vertex c.args.outside c.requires.around c.in-Ok.strip.items are
-    c.in-Ok-disconnect_edge_strip.ensures.edit c.cleanup_isolated_vertex.ensures.edit c.swap_remove_vertex.result.swapped_in_vertex c.swap_remove_vertex.ensures.moved
+    record {
+      datum = cut_datum m c.disconnect_edge_strip.new.dcel c.cleanup_isolated_vertex.new.dcel c.every_mesh.ensures c.args.vertex c.args.outside c.requires.around c.in-Ok.strip.items are
+          c.in-Ok-disconnect_edge_strip.ensures.edit c.cleanup_isolated_vertex.ensures.edit c.swap_remove_vertex.result.removed_vertex c.swap_remove_vertex.ensures.datum;
+      moved = cut_moved m c.disconnect_edge_strip.new.dcel c.cleanup_isolated_vertex.new.dcel c.every_mesh.ensures c.args.vertex c.args.outside c.requires.around c.in-Ok.strip.items are
+          c.in-Ok-disconnect_edge_strip.ensures.edit c.cleanup_isolated_vertex.ensures.edit c.swap_remove_vertex.result.swapped_in_vertex c.swap_remove_vertex.ensures.moved;
+    }
