@@ -12,13 +12,18 @@ use std::alloc::Global;
 const PLACES: [(i64, i64); 7] = [(0, 0), (10, 0), (12, 8), (5, 11), (-2, 7), (4, 4), (7, 6)];
 
 fn main(rt: HostRuntime) -> Result<()> {
-    show_changes(&rt, rt.alloc())?;
+    show_points(&rt, rt.alloc())?;
     outline::show(&rt, rt.alloc())
 }
 
-/// Triangulates all points but the last, inserts that one, and removes the one nearest to a place.
-fn show_changes(rt: &impl Print, alloc: Global) -> Result<()> {
+/// Triangulates all points but the last, and shows how the triangulation changes.
+fn show_points(rt: &impl Print, alloc: Global) -> Result<()> {
     let mut triangulation = triangulated(&PLACES[..6], alloc)?;
+    show_changes(rt, &mut triangulation)
+}
+
+/// Inserts the last point, and removes the one nearest to a place.
+fn show_changes(rt: &impl Print, triangulation: &mut Triangulation) -> Result<()> {
     show_triangles(rt, "six points", triangulation.dcel())?;
 
     let (x, y) = PLACES[6];
@@ -39,10 +44,19 @@ fn show_changes(rt: &impl Print, alloc: Global) -> Result<()> {
 /// Returns the Delaunay triangulation of some points, whose vertices have their numbers.
 fn triangulated(places: &[(i64, i64)], alloc: Global) -> Result<Triangulation, InsertionError> {
     let mut triangulation = Triangulation::new(alloc)?;
+    insert_points(&mut triangulation, places)?;
+    Ok(triangulation)
+}
+
+/// Inserts points, one after another.
+fn insert_points(
+    triangulation: &mut Triangulation,
+    places: &[(i64, i64)],
+) -> Result<(), InsertionError> {
     for (x, y) in places {
         triangulation.insert(point(*x, *y)?)?;
     }
-    Ok(triangulation)
+    Ok(())
 }
 
 /// Prints the triangles of a mesh, each by its corners in counterclockwise order.

@@ -49,9 +49,9 @@ impl fmt::Display for Case<'_> {
 }
 
 /// Returns the function that is called.
-fn function(line: &str, way: Way, alloc: Global) -> Result<&'static str, Fail> {
+fn function(line: &str, way: Way) -> Result<&'static str, Fail> {
     match way {
-        Way::Operation => Ok(operation(&read_command(line, alloc)?)),
+        Way::Operation => operation(line),
         Way::Apply => Ok("apply"),
         Way::Whole => whole::function(line),
     }
@@ -150,12 +150,28 @@ fn carry_out_row(dcel: &mut Mesh, row: Row, way: Way, alloc: Global) -> Result<(
     holds(is_made, row.line)
 }
 
+/// Makes the call of a row, and returns what it leaves.
+fn left_by(dcel: &mut Mesh, row: Row, way: Way, alloc: Global) -> Result<Snapshot, Fail> {
+    carry_out_row(dcel, row, way, alloc)?;
+    snapshot_of(dcel, alloc)
+}
+
+/// Returns what this mesh is like before the call of a row, and after it if nothing is refused.
+fn before_and_after(
+    dcel: &mut Mesh,
+    row: Row,
+    way: Way,
+    alloc: Global,
+) -> Result<[Snapshot; 2], Fail> {
+    let before = snapshot_of(dcel, alloc)?;
+    let left = left_by(dcel, row, way, alloc)?;
+    Ok([before, left])
+}
+
 /// Returns what the mesh of a row is like before the call, and after it if nothing is refused.
 fn snapshots(row: Row, way: Way, alloc: Global) -> Result<[Snapshot; 2], Fail> {
     let mut dcel = made(alloc, row.block)?;
-    let before = snapshot_of(&dcel, alloc)?;
-    carry_out_row(&mut dcel, row, way, alloc)?;
-    Ok([before, snapshot_of(&dcel, alloc)?])
+    before_and_after(&mut dcel, row, way, alloc)
 }
 
 /// Returns how many requests the call makes: `3+2` are 3 by the operation, and 5 as a command,
@@ -169,21 +185,37 @@ fn requests(row: Row, way: Way) -> Result<u64, Fail> {
     }
 }
 
-/// Refuses the call each of its requests in turn, and none at last.
-fn sweep(row: Row, way: Way, swept: &mut Swept, alloc: Global) -> Result<(), Fail> {
-    let function = function(row.line, way, alloc)?;
-    let requests = requests(row, way)?;
-    let [before, left] = snapshots(row, way, alloc)?;
-    for number in 0..=requests {
-        let case = Case {
-            row,
-            way,
-            function,
-            number,
-        };
-        let comes = comes(case, [&before, &left], alloc)?;
+/// Refuses the call each of its requests in turn, from that of the first case on, and none at last.
+fn refuse_each(
+    first: Case,
+    requests: u64,
+    snapshots: [&Snapshot; 2],
+    alloc: Global,
+) -> Result<(), Fail> {
+    for number in first.number..=requests {
+        let case = Case { number, ..first };
+        let comes = comes(case, snapshots, alloc)?;
         same(comes, number < requests, case)?;
     }
+    Ok(())
+}
+
+/// Does so, and compares what is left with what the call leaves if nothing is refused.
+fn refuse(first: Case, requests: u64, alloc: Global) -> Result<(), Fail> {
+    let [before, left] = snapshots(first.row, first.way, alloc)?;
+    refuse_each(first, requests, [&before, &left], alloc)
+}
+
+fn sweep(row: Row, way: Way, swept: &mut Swept, alloc: Global) -> Result<(), Fail> {
+    let function = function(row.line, way)?;
+    let requests = requests(row, way)?;
+    let first = Case {
+        row,
+        way,
+        function,
+        number: 0,
+    };
+    refuse(first, requests, alloc)?;
     Ok(swept.note(function, requests)?)
 }
 

@@ -118,22 +118,31 @@ fn refused(row: Row, way: Way, number: u64, alloc: Global) -> Result<Outcome, Fa
     refuse(&mut dcel, &memory, row.line, (way, number), alloc)
 }
 
+/// Checks a run whose request of this number is refused, and ends so, beside one that stopped with
+/// this outcome.
+fn check_beside(
+    row: Row,
+    (way, number): (Way, u64),
+    ended: Legalized,
+    wanted: &Outcome,
+    alloc: Global,
+) -> Result<(), Fail> {
+    let (found, left) = refused(row, way, number, alloc)?;
+    let what = format_args!("{}: request {number} of {}", function(way), row.line);
+    same((found, &left), (ended, &wanted.1), what)
+}
+
 /// Checks a run whose request of this number is refused, and ends so, beside one of so many flips
 /// and no more, which stops so.
 fn check(
     row: Row,
-    (way, number): (Way, u64),
+    case: (Way, u64),
     [ended, stopped]: [Legalized; 2],
     alloc: Global,
 ) -> Result<(), Fail> {
-    let found = refused(row, way, number, alloc)?;
     let wanted = flipped(row, ended.flips(), alloc)?;
-    let what = format_args!("{}: request {number} of {}", function(way), row.line);
-    same(
-        (found.0, wanted.0, found.1),
-        (ended, stopped, wanted.1),
-        what,
-    )
+    check_beside(row, case, ended, &wanted, alloc)?;
+    same(wanted.0, stopped, row.line)
 }
 
 /// Checks a run whose request of this number is refused after these flips.
@@ -145,12 +154,17 @@ fn check_refused(row: Row, way: Way, number: u64, flips: usize, alloc: Global) -
     check(row, (way, number), ends, alloc)
 }
 
+fn push_numbers(numbers: &mut Vec<usize>, words: &str) -> Result<(), Fail> {
+    for word in words.split(' ') {
+        numbers.push(number(word)? as usize)?;
+    }
+    Ok(())
+}
+
 /// Returns how many flips stand before each request of a row, and how many there are in the end.
 fn flips_of(row: Row, alloc: Global) -> Result<Vec<usize>, Fail> {
     let mut flips = Vec::new(alloc);
-    for word in row.requests.split(' ') {
-        flips.push(number(word)? as usize)?;
-    }
+    push_numbers(&mut flips, row.requests)?;
     Ok(flips)
 }
 
@@ -166,10 +180,15 @@ fn refuse_each(row: Row, way: Way, flips: &[usize], alloc: Global) -> Result<(),
     check(row, (way, before.len() as u64), [done, done], alloc)
 }
 
-fn sweep(row: Row, way: Way, swept: &mut Swept, alloc: Global) -> Result<(), Fail> {
+/// Refuses a row all its requests. Returns how many there are.
+fn refuse_all(row: Row, way: Way, alloc: Global) -> Result<u64, Fail> {
     let flips = flips_of(row, alloc)?;
     refuse_each(row, way, &flips, alloc)?;
-    let requests = flips.len().saturating_sub(1) as u64;
+    Ok(flips.len().saturating_sub(1) as u64)
+}
+
+fn sweep(row: Row, way: Way, swept: &mut Swept, alloc: Global) -> Result<(), Fail> {
+    let requests = refuse_all(row, way, alloc)?;
     Ok(swept.note(function(way), requests)?)
 }
 

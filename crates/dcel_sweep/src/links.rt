@@ -120,27 +120,32 @@ const ROWS: [Row; 6] = [
     },
 ];
 
-/// Returns the data of a row, for which there is memory.
-fn data<'a>(memory: Memory<'a>, row: &Row) -> Result<Data<'a>, AllocError> {
-    let mut data = MeshData {
-        vertices: Vec::new(memory),
-        edges: Vec::new(memory),
-        faces: Vec::new(memory),
-    };
-    for datum in row.vertices {
-        data.vertices.push(*datum)?;
-    }
-    for [normalized, reversed, undirected] in row.edges {
-        data.edges.push(EdgeData {
+/// Returns the data of edges.
+fn edge_data<'a>(
+    memory: Memory<'a>,
+    edges: &[[i64; 3]],
+) -> Result<Vec<EdgeData<i64, i64>, Memory<'a>>, AllocError> {
+    let mut data = Vec::new(memory);
+    for [normalized, reversed, undirected] in edges {
+        data.push(EdgeData {
             normalized: *normalized,
             reversed: *reversed,
             undirected: *undirected,
         })?;
     }
-    for datum in row.faces {
-        data.faces.push(*datum)?;
-    }
     Ok(data)
+}
+
+/// Returns the data of a row, for which there is memory.
+fn data<'a>(memory: Memory<'a>, row: &Row) -> Result<Data<'a>, AllocError> {
+    let edges = edge_data(memory, row.edges)?;
+    let vertices = Vec::from_slice(memory, row.vertices)?;
+    let faces = Vec::from_slice(memory, row.faces)?;
+    Ok(MeshData {
+        vertices,
+        edges,
+        faces,
+    })
 }
 
 /// Checks that these are the data of a row.
@@ -175,7 +180,7 @@ fn left(row: &Row, alloc: Global) -> Result<Option<Snapshot>, Fail> {
     let memory = Refusing::new(alloc);
     let data = data(&memory, row)?;
     match make(&memory, row, data, Refusals::None) {
-        Ok(made) => Ok(Some(snapshot_of(&made, alloc)?)),
+        Ok(made) => snapshot_of(&made, alloc).map(|seen| Some(seen)),
         Err(_) => Ok(None),
     }
 }
@@ -247,13 +252,22 @@ fn is_refused(
 }
 
 /// Refuses the row each of its requests in turn, and none at last.
-fn sweep(row: &Row, swept: &mut Swept, alloc: Global) -> Result<(), Fail> {
-    let left = left(row, alloc)?;
+fn refuse_each(row: &Row, left: &Option<Snapshot>, alloc: Global) -> Result<(), Fail> {
     for number in 0..=row.requests {
-        let is_refused = is_refused(row, number, &left, alloc)?;
+        let is_refused = is_refused(row, number, left, alloc)?;
         let what = format_args!("{}: request {number}", name(row.call));
         same(is_refused, number < row.requests, what)?;
     }
+    Ok(())
+}
+
+fn refuse(row: &Row, alloc: Global) -> Result<(), Fail> {
+    let left = left(row, alloc)?;
+    refuse_each(row, &left, alloc)
+}
+
+fn sweep(row: &Row, swept: &mut Swept, alloc: Global) -> Result<(), Fail> {
+    refuse(row, alloc)?;
     Ok(swept.note(name(row.call), row.requests)?)
 }
 

@@ -63,8 +63,17 @@ fn left_by(list: List, alloc: Global) -> Result<Snapshot, Fail> {
 
 /// Checks that the mesh is the one that a list leaves.
 fn check_left(dcel: &Watched, list: List, alloc: Global) -> Result<(), Fail> {
-    let what = format_args!("the mesh after {} calls", list.lines.len());
-    same(snapshot_of(dcel, alloc)?, left_by(list, alloc)?, what)
+    check_snapshot(dcel, &left_by(list, alloc)?, list.lines.len(), alloc)
+}
+
+fn check_snapshot(
+    dcel: &Watched,
+    wanted: &Snapshot,
+    calls: usize,
+    alloc: Global,
+) -> Result<(), Fail> {
+    let what = format_args!("the mesh after {calls} calls");
+    same(&snapshot_of(dcel, alloc)?, wanted, what)
 }
 
 /// Makes the calls of a list with the request of this number refused, up to the one that meets it.
@@ -292,19 +301,39 @@ fn sweep(list: List, swept: &mut Swept, alloc: Global) -> Result<(), Fail> {
     Ok(swept.note(CALL, sweep_list(list, alloc)?)?)
 }
 
+/// Adds the line and the reply that a text has, unless it is empty or a comment.
+fn push_text<'a>(
+    lines: &mut Vec<&'a str>,
+    replies: &mut Vec<&'a str>,
+    text: &'a str,
+) -> Result<(), Fail> {
+    if text.is_empty() || text.starts_with('#') {
+        return Ok(());
+    }
+    let Some((line, reply)) = text.split_once(": ") else {
+        return Err(Fail::new(format_args!("no reply behind {text}")));
+    };
+    lines.push(line)?;
+    replies.push(reply)?;
+    Ok(())
+}
+
+/// Adds the lines of a block, and the replies behind them.
+fn push_block<'a>(
+    lines: &mut Vec<&'a str>,
+    replies: &mut Vec<&'a str>,
+    block: &'a str,
+) -> Result<(), Fail> {
+    for text in block.lines() {
+        push_text(lines, replies, text)?;
+    }
+    Ok(())
+}
+
 /// Sweeps the list of a block.
 pub fn sweep_block(block: &str, swept: &mut Swept, alloc: Global) -> Result<(), Fail> {
     let (mut lines, mut replies) = (Vec::new(alloc), Vec::new(alloc));
-    for text in block.lines() {
-        if text.is_empty() || text.starts_with('#') {
-            continue;
-        }
-        let Some((line, reply)) = text.split_once(": ") else {
-            return Err(Fail::new(format_args!("no reply behind {text}")));
-        };
-        lines.push(line)?;
-        replies.push(reply)?;
-    }
+    push_block(&mut lines, &mut replies, block)?;
     let list = List {
         lines: &lines,
         replies: &replies,

@@ -27,20 +27,31 @@ mod whole;
 
 use crate::swept::Swept;
 use std::alloc::Global;
+use std::rt::{Env, Files};
 use std::test::Fail;
 use std::{env, fs};
 
 fn main(rt: HostRuntime) -> Result<(), Fail> {
     let mut swept = Swept::new(rt.alloc());
-    for name in env::args(&rt)?.skip(1) {
-        let text = fs::read_to_string(&rt, name.as_str())?;
-        sweep_file(name.as_str(), text.as_str(), &mut swept, rt.alloc())?;
+    sweep(&rt, &mut swept)
+}
+
+/// Sweeps all, and prints how many requests were refused.
+fn sweep(rt: &(impl Env + Files + Print + AllocGlobal), swept: &mut Swept) -> Result<(), Fail> {
+    for name in env::args(rt)?.skip(1) {
+        sweep_named(rt, name.as_str(), swept)?;
     }
-    links::sweep_all(&mut swept, rt.alloc())?;
+    links::sweep_all(swept, rt.alloc())?;
     for (function, rows, requests) in swept.functions() {
         println!(rt; "{function}: rows {rows}, requests refused {requests}")?;
     }
     Ok(())
+}
+
+/// Sweeps the rows of the file with this name.
+fn sweep_named(rt: &(impl Files + AllocGlobal), name: &str, swept: &mut Swept) -> Result<(), Fail> {
+    let text = fs::read_to_string(rt, name)?;
+    sweep_file(name, text.as_str(), swept, rt.alloc())
 }
 
 /// Sweeps the rows of a file as the end of its name tells.

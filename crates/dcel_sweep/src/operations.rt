@@ -1,36 +1,44 @@
-//! The operation that does what a command says.
+//! The operation that does what a line says.
 
 use crate::{grows, removes};
 use dcel_bench::refusing::{Memory, Watched};
 use dcel_commands::commands::Command;
-use std::alloc::Allocator;
 use std::test::Fail;
 
-/// Returns the name of the operation.
-pub fn operation<A: Allocator>(command: &Command<i64, A>) -> &'static str {
-    match command {
-        Command::Append(_) => "append_unconnected_vertex",
-        Command::Triangle(_, _, _) => "new_triangle",
-        Command::Setup(_, _) => "setup_initial_two_vertices",
-        Command::Extend(_, _) => "extend_line",
-        Command::Line(_, _) => "split_edge_when_all_vertices_on_line",
-        Command::Close(_) => "create_single_face_between_edge_and_next",
-        Command::Outside(_, _) => "create_new_face_adjacent_to_edge",
-        Command::Insert(_, _) => "insert_into_triangle",
-        Command::Half(_, _) => "split_half_edge",
-        Command::Split(_, _) => "split_edge",
-        Command::Flip(_) => "flip_cw",
-        Command::Swap(_, _) => "swap_vertices",
-        Command::Put(_, _) => "update_vertex",
-        Command::Isolate(_, _) => "isolate_vertex_and_fill_hole",
-        Command::Remesh(_, _, _) => "remesh_edge_ring",
-        Command::Strip(_) => "disconnect_edge_strip",
-        Command::Cleanup(_, _) => "cleanup_isolated_vertex",
-        Command::Remove(_) => "swap_remove_vertex",
-        Command::Degenerate(_) => "remove_when_degenerate",
-        Command::Legalize(_, _) => "legalize_by_number",
-        Command::Clear => "clear",
+/// The words of lines, each with the operation that does what it says.
+const OPERATIONS: [(&str, &str); 21] = [
+    ("append", "append_unconnected_vertex"),
+    ("triangle", "new_triangle"),
+    ("setup", "setup_initial_two_vertices"),
+    ("extend", "extend_line"),
+    ("line", "split_edge_when_all_vertices_on_line"),
+    ("close", "create_single_face_between_edge_and_next"),
+    ("outside", "create_new_face_adjacent_to_edge"),
+    ("insert", "insert_into_triangle"),
+    ("half", "split_half_edge"),
+    ("split", "split_edge"),
+    ("flip", "flip_cw"),
+    ("swap", "swap_vertices"),
+    ("put", "update_vertex"),
+    ("isolate", "isolate_vertex_and_fill_hole"),
+    ("remesh", "remesh_edge_ring"),
+    ("strip", "disconnect_edge_strip"),
+    ("cleanup", "cleanup_isolated_vertex"),
+    ("remove", "swap_remove_vertex"),
+    ("degenerate", "remove_when_degenerate"),
+    ("legalize", "legalize_by_number"),
+    ("clear", "clear"),
+];
+
+/// Returns the name of the operation that does what a line says.
+pub fn operation(line: &str) -> Result<&'static str, Fail> {
+    let (wanted, _) = line.split_once(' ').unwrap_or((line, ""));
+    for (word, operation) in &OPERATIONS {
+        if *word == wanted {
+            return Ok(*operation);
+        }
     }
+    Err(Fail::new(format_args!("no operation: {line}")))
 }
 
 /// Makes the call, after testing what it asks. Returns whether there was memory.

@@ -34,26 +34,84 @@ struct Block<'a> {
     rows: &'a [Row<'a>],
 }
 
+/// Adds the lines of a block that have memory.
+fn push_mesh(text: &mut Vec<u8>, block: Block) -> Result<(), AllocError> {
+    for line in block.text.lines() {
+        if is_of_mesh(line) {
+            push_line(text, line)?;
+        }
+    }
+    Ok(())
+}
+
+fn push_rows(text: &mut Vec<u8>, rows: &[Row]) -> Result<(), AllocError> {
+    for row in rows {
+        push_line(text, row.line)?;
+    }
+    Ok(())
+}
+
+/// Adds the lines of a block up to this row.
+fn push_before(text: &mut Vec<u8>, block: Block, place: usize) -> Result<(), AllocError> {
+    push_mesh(text, block)?;
+    push_rows(text, block.rows.get(..place).unwrap_or(&[]))
+}
+
 /// Returns the lines of a block up to this row.
 fn before(block: Block, place: usize, alloc: Global) -> Result<Vec<u8>, AllocError> {
     let mut text = Vec::new(alloc);
-    for line in block.text.lines() {
-        if is_of_mesh(line) {
-            push_line(&mut text, line)?;
-        }
-    }
-    for row in block.rows.get(..place).unwrap_or(&[]) {
-        push_line(&mut text, row.line)?;
-    }
+    push_before(&mut text, block, place)?;
     Ok(text)
 }
 
 /// Adds the lines of a block from this row on, and those that come after each block.
 fn push_from(text: &mut Vec<u8>, block: Block, place: usize) -> Result<(), AllocError> {
-    for row in block.rows.get(place..).unwrap_or(&[]) {
-        push_line(text, row.line)?;
-    }
+    push_rows(text, block.rows.get(place..).unwrap_or(&[]))?;
     push_line(text, SEEN)
+}
+
+/// Returns the lines of a block up to one row and from another one on, and those that come after
+/// each block.
+fn lines(block: Block, [place, next]: [usize; 2], alloc: Global) -> Result<Vec<u8>, AllocError> {
+    let mut text = before(block, place, alloc)?;
+    push_from(&mut text, block, next)?;
+    Ok(text)
+}
+
+/// Returns what a run over these lines writes if nothing is refused.
+fn replies(lines: &[u8], alloc: Global) -> Result<Vec<u8>, Fail> {
+    let (written, _) = run(lines, Refusals::None, alloc)?;
+    Ok(written)
+}
+
+fn replies_before(block: Block, place: usize, alloc: Global) -> Result<Vec<u8>, Fail> {
+    let lines = before(block, place, alloc)?;
+    replies(&lines, alloc)
+}
+
+/// Returns what is written if the line at this place isn't there.
+fn replies_without(block: Block, place: usize, alloc: Global) -> Result<Vec<u8>, Fail> {
+    let lines = lines(block, [place, place.saturating_add(1)], alloc)?;
+    replies(&lines, alloc)
+}
+
+/// Adds to the replies to the lines before one its refusal, and the replies to the lines after it as
+/// they are without it.
+fn push_refused(replies: &mut Vec<u8>, without: &[u8]) -> Result<(), AllocError> {
+    let rest = without.get(replies.len()..).unwrap_or(&[]);
+    push_line(replies, "refused 20 OutOfMemory")?;
+    replies.extend_from_slice(rest)
+}
+
+fn with_refusal(
+    block: Block,
+    place: usize,
+    without: &[u8],
+    alloc: Global,
+) -> Result<Vec<u8>, Fail> {
+    let mut replies = replies_before(block, place, alloc)?;
+    push_refused(&mut replies, without)?;
+    Ok(replies)
 }
 
 /// Returns what is written if the line at this place is refused.
@@ -61,14 +119,8 @@ fn push_from(text: &mut Vec<u8>, block: Block, place: usize) -> Result<(), Alloc
 /// These are the replies to the lines before it, the refusal, and the replies that the lines after
 /// it get if it isn't there.
 fn wanted(block: Block, place: usize, alloc: Global) -> Result<Vec<u8>, Fail> {
-    let mut lines = before(block, place, alloc)?;
-    let (mut wanted, _) = run(&lines, Refusals::None, alloc)?;
-    push_from(&mut lines, block, place.saturating_add(1))?;
-    let (without, _) = run(&lines, Refusals::None, alloc)?;
-    let rest = without.get(wanted.len()..).unwrap_or(&[]);
-    push_line(&mut wanted, "refused 20 OutOfMemory")?;
-    wanted.extend_from_slice(rest)?;
-    Ok(wanted)
+    let without = replies_without(block, place, alloc)?;
+    with_refusal(block, place, &without, alloc)
 }
 
 /// Checks that these texts are the same.
@@ -84,11 +136,17 @@ fn requests_of(lines: &[u8], alloc: Global) -> Result<u64, Fail> {
     Ok(requests)
 }
 
+/// Returns how many requests a run over the lines of a block up to this row makes.
+fn requests_before(block: Block, place: usize, alloc: Global) -> Result<u64, Fail> {
+    let lines = before(block, place, alloc)?;
+    requests_of(&lines, alloc)
+}
+
 /// Returns the number of the first request of the row at this place, after checking how many it
 /// makes.
 fn first_request(block: Block, place: usize, requests: u64, alloc: Global) -> Result<u64, Fail> {
-    let first = requests_of(&before(block, place, alloc)?, alloc)?;
-    let end = requests_of(&before(block, place.saturating_add(1), alloc)?, alloc)?;
+    let first = requests_before(block, place, alloc)?;
+    let end = requests_before(block, place.saturating_add(1), alloc)?;
     let what = format_args!("{CALL}: requests of row {place} after {}", block.text);
     same(end.saturating_sub(first), requests, what)?;
     Ok(first)
@@ -106,25 +164,48 @@ fn check_refused(
     check_text(&written, wanted, line, alloc)
 }
 
+/// Refuses each request from the first of these numbers up to the second, which these lines make.
+fn refuse_each(
+    lines: &[u8],
+    numbers: [u64; 2],
+    wanted: &[u8],
+    line: &str,
+    alloc: Global,
+) -> Result<(), Fail> {
+    let [first, end] = numbers;
+    for number in first..end {
+        check_refused(lines, number, wanted, line, alloc)?;
+    }
+    Ok(())
+}
+
+fn refuse_all(
+    block: Block,
+    place: usize,
+    numbers: [u64; 2],
+    wanted: &[u8],
+    line: &str,
+    alloc: Global,
+) -> Result<(), Fail> {
+    let lines = lines(block, [place, place], alloc)?;
+    refuse_each(&lines, numbers, wanted, line, alloc)
+}
+
 /// Refuses the row at this place each of its requests in turn.
 fn refuse(block: Block, place: usize, row: Row, alloc: Global) -> Result<u64, Fail> {
     let requests = number(row.requests)?;
     let first = first_request(block, place, requests, alloc)?;
+    let numbers = [first, first.saturating_add(requests)];
     let wanted = wanted(block, place, alloc)?;
-    let mut lines = before(block, place, alloc)?;
-    push_from(&mut lines, block, place)?;
-    for number in 0..requests {
-        let number = first.saturating_add(number);
-        check_refused(&lines, number, &wanted, row.line, alloc)?;
-    }
+    refuse_all(block, place, numbers, &wanted, row.line, alloc)?;
     Ok(requests)
 }
 
 /// Checks that what comes after a block makes no request.
 fn check_seen(block: Block, alloc: Global) -> Result<(), Fail> {
-    let mut lines = before(block, block.rows.len(), alloc)?;
-    let first = requests_of(&lines, alloc)?;
-    push_line(&mut lines, SEEN)?;
+    let end = block.rows.len();
+    let first = requests_before(block, end, alloc)?;
+    let lines = lines(block, [end, end], alloc)?;
     same(requests_of(&lines, alloc)?, first, "requests of queries")
 }
 

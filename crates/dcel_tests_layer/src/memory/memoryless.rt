@@ -1,6 +1,6 @@
 //! What takes no memory, where every request for it is refused.
 
-use crate::runs::run;
+use crate::memory::runs::run;
 use dcel_bench::checks::same;
 use dcel_bench::data::{Datum, write_all, write_distinct};
 use dcel_bench::lines::grown;
@@ -269,17 +269,22 @@ fn check_watched(lines: &str, wanted: &Mesh, lists: &Lists, alloc: Global) -> Re
     same(memory.requests(), 0, "requests")
 }
 
-fn check_mesh(lines: &str, alloc: Global) -> Result<(), Fail> {
+fn check_mesh(lines: &str, lists: &Lists, alloc: Global) -> Result<(), Fail> {
     let wanted = made(alloc, lines)?;
-    check_watched(lines, &wanted, &make_lists(alloc)?, alloc)
+    check_watched(lines, &wanted, lists, alloc)
+}
+
+fn check_meshes(lists: &Lists, alloc: Global) -> Result<(), Fail> {
+    for lines in &MESHES {
+        check_mesh(*lines, lists, alloc)?;
+    }
+    Ok(())
 }
 
 #[test]
 fn reads_walks_and_tests_take_no_memory(rt: HostRuntime) -> Result<(), Fail> {
-    for lines in &MESHES {
-        check_mesh(*lines, rt.alloc())?;
-    }
-    Ok(())
+    let lists = make_lists(rt.alloc())?;
+    check_meshes(&lists, rt.alloc())
 }
 
 fn check_written(alloc: Global) -> Result<(), Fail> {

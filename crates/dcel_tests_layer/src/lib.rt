@@ -1,4 +1,5 @@
-//! Tests of the calls of `spade_dcel`: what they return, and the links and anchors that result.
+//! Tests of the calls of `spade_dcel` and of commands: what they return, the links and anchors that
+//! result, whole meshes and their data, and what takes memory.
 #![tactic(auto)]
 
 #[cfg(test)]
@@ -10,9 +11,15 @@ mod carried;
 #[cfg(test)]
 mod clears;
 #[cfg(test)]
+mod counted;
+#[cfg(test)]
 mod degenerate;
 #[cfg(test)]
+mod elements_data;
+#[cfg(test)]
 mod flips;
+#[cfg(test)]
+mod given;
 #[cfg(test)]
 mod limits;
 #[cfg(test)]
@@ -22,8 +29,12 @@ mod lists;
 #[cfg(test)]
 mod live;
 #[cfg(test)]
+mod memory;
+#[cfg(test)]
 mod openers;
 #[cfg(test)]
 mod removals;
 #[cfg(test)]
 mod swaps;
+#[cfg(test)]
+mod whole_meshes;

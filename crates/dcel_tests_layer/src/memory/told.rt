@@ -1,6 +1,6 @@
 //! Literal replies where a line is refused memory.
 
-use crate::runs::run;
+use crate::memory::runs::run;
 use dcel_bench::checks::same;
 use dcel_bench::refusing::Refusals;
 use std::alloc::{AllocError, Global};
