@@ -22,7 +22,8 @@
    DCEL_OUT_OF_MEMORY or DCEL_SHORT before all others where it takes lists. A call that takes a const
    dcel_mesh leaves it as it was.
 
-   Where a mesh isn't open nothing is done or found: a call returns DCEL_NO_MESH, DCEL_NONE, 0 or false.
+   Where a mesh isn't open nothing is done or found: a call returns DCEL_NO_MESH, DCEL_NONE, 0 or false,
+   but see lists above.
    What else a call can be refused for stands behind `Refusals`, without DCEL_.
 
    Half edges 2 * u and 2 * u + 1 are the halves of edge u, and go opposite ways. Face 0 is the outer
@@ -222,7 +223,7 @@ dcel_status dcel_clone(const dcel_mesh *from, dcel_mesh *to);
    datum. */
 dcel_status dcel_clear(dcel_mesh *mesh);
 
-/* Makes room in memory for that many more elements.
+/* Asks for memory for that many more elements. That it does is tested, not proved.
    Refusals: NO_ROOM if there are no numbers for them, OUT_OF_MEMORY. */
 dcel_status dcel_reserve_capacity(dcel_mesh *mesh, uint64_t vertices, uint64_t undirected_edges,
                                   uint64_t faces);
@@ -458,7 +459,8 @@ bool dcel_is_triangle(const dcel_mesh *mesh, uint32_t face);
 /* The half edge is live, and both halves of its edge lie on one face. */
 bool dcel_is_bridge(const dcel_mesh *mesh, uint32_t edge);
 
-/* There are numbers left for that many more elements: up to 2^32 vertices and faces, 2^31 edges. */
+/* There are numbers left for that many more elements: up to 2^32 vertices and faces, 2^31 edges. Edits
+   stop earlier, at 2^31 of each (NO_ROOM). */
 bool dcel_has_room(const dcel_mesh *mesh, uint64_t vertices, uint64_t undirected_edges, uint64_t faces);
 
 /* The mesh looks triangulated: as sanity_check of spade. */
@@ -544,7 +546,7 @@ dcel_status dcel_triangulate(const dcel_point *points, size_t points_len, dcel_t
 
    One that isn't whole, since memory ran out in an insertion or a removal, has its vertices, but edges
    that are still to be flipped. dcel_triangulation_finish makes it whole, and so does the next call that
-   changes it, also one that is refused. */
+   changes it and succeeds, or is refused with NO_SUCH_VERTEX or NO_ROOM. */
 
 /* A triangulation, or none: zero bytes are one that isn't open. The fields are the library's. */
 typedef struct {

@@ -1,6 +1,6 @@
 //! Removals: opened, cleaned up, and closed.
 
-ghost use Rattle.std.specs.Prelude.{◌≡◌, ◌≢◌, ◌<◌, length, min};
+ghost use Rattle.std.specs.Prelude.{◌≡◌, ◌≢◌, ◌<◌, ◌↔◌, length, min};
 ghost use Rattle.dcel_commands.specs.Instructions.{instruction, Isolate, Remesh, Strip, Cleanup, Remove, Degenerate};
 ghost use Rattle.dcel_commands.specs.Responses.{response};
 ghost use Rattle.dcel_exports.specs.Answers.{filled};
@@ -131,7 +131,7 @@ pub extern "C" fn dcel_isolate_vertex_and_fill_hole(
     ensures edit { EditsByLists (kept_in mesh.old) (Isolate vertex border_loop.now) (kept_in mesh.new) result }
     ensures told { result ≡ 0 → Tells (opened_with_lists edges.old faces.old) (kept_in mesh.old) (Isolate vertex border_loop.now) (kept_in mesh.new) (opened.new, edges.new, faces.new) }
     ensures untold { result ≢ 0 → (opened.new ≡ opened.old) × (edges.new ≡ edges.old) × (faces.new ≡ faces.old) }
-    ensures short { result ≡ 22 → min (length edges.old) (length faces.old) < length border_loop.now }
+    ensures short { (result ≡ 22) ↔ (min (length edges.old) (length faces.old) < length border_loop.now) }
 {
     if edges.len().min(faces.len()) < border_loop.len() {
         return SHORT;
@@ -200,7 +200,7 @@ pub extern "C" fn dcel_disconnect_edge_strip(
     ensures edit { EditsByLists (kept_in mesh.old) (Strip strip.now) (kept_in mesh.new) result }
     ensures told { result ≡ 0 → Tells (opened_with_lists edges.old faces.old) (kept_in mesh.old) (Strip strip.now) (kept_in mesh.new) (opened.new, edges.new, faces.new) }
     ensures untold { result ≢ 0 → (opened.new ≡ opened.old) × (edges.new ≡ edges.old) × (faces.new ≡ faces.old) }
-    ensures short { result ≡ 22 → min (length edges.old) (length faces.old) < length strip.now }
+    ensures short { (result ≡ 22) ↔ (min (length edges.old) (length faces.old) < length strip.now) }
 {
     if edges.len().min(faces.len()) < strip.len() {
         return SHORT;

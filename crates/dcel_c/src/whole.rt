@@ -1,6 +1,6 @@
 //! Whole meshes: made, cloned, emptied and freed.
 
-ghost use Rattle.std.specs.Prelude.{◌≡◌, ◌≢◌, ◌≤◌, ◌⊎◌, IsSome, None, Some};
+ghost use Rattle.std.specs.Prelude.{◌≡◌, ◌≢◌, ◌≤◌, ◌⊎◌, ◌↔◌, IsSome, None, Some};
 ghost use Rattle.dcel_commands.specs.Instructions.{Clear};
 ghost use Rattle.dcel_maps.specs.Conditions.{HasRoom};
 ghost use Rattle.dcel_c.specs.Calls.{HasNewMesh, IsSo, kept_in};
@@ -61,7 +61,7 @@ pub extern "C" fn dcel_free(alloc: Global, mesh: &mut DcelMesh)
 pub extern "C" fn dcel_clone(alloc: Global, from: &mut DcelMesh, to: &mut DcelMesh) -> u32
     ensures done { result ≡ 0 → IsSome (kept_in from.old) × (kept_in to.new ≡ kept_in from.old) }
     ensures refused { result ≢ 0 → kept_in to.new ≡ kept_in to.old }
-    ensures no_mesh { result ≡ 21 → kept_in from.old ≡ None }
+    ensures no_mesh { (result ≡ 21) ↔ (kept_in from.old ≡ None) }
     ensures status { (result ≡ 0) ⊎ ((20 ≤ result) × (result ≤ 21)) }
     ensures same { kept_in from.new ≡ kept_in from.old }
 {
