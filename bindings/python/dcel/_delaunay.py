@@ -174,7 +174,7 @@ class Delaunay:
 
     def _add(self, flat: Any, steps: Any, power: int, moved: float) -> None:
         """Adds points: all, or if that is ended by an error or an interrupt, none."""
-        first, before, grid = len(self._vertices), len(self._rows), (self._power, self.moved)
+        first, before = len(self._vertices), len(self._rows)
         try:
             vertices = self._put(self._kept, steps)
             if len(vertices) == 1:  # in place, as all rows may be many
@@ -186,7 +186,6 @@ class Delaunay:
             self._flat.frombytes(memoryview(flat).cast("B") if len(flat) else b"")
             self._power, self.moved = power, moved
         except BaseException:
-            self._power, self.moved = grid
             self._take_back(first, before)
             raise
 
