@@ -14,7 +14,21 @@ from ._arrays import numpy, shaped, start_of, zeros
 from ._calls import library
 from ._errors import Unfinished
 from ._far import far_position, nearest_row
-from ._grid import LEAST_POWER, Grid, clipped, far_moved, floats, first_moved, is_one, least_and_most, power_of, power_of_step, refuse_unequal, rounded, snapped
+from ._grid import (
+    LEAST_POWER,
+    Grid,
+    clipped,
+    far_moved,
+    first_moved,
+    floats,
+    is_one,
+    least_and_most,
+    power_of,
+    power_of_step,
+    refuse_unequal,
+    rounded,
+    snapped,
+)
 from ._mesh import Dcel
 from ._tables import (
     by_table,
@@ -67,7 +81,7 @@ class Delaunay:
     _free = library.dcel_triangulation_free
     _kept: _declared.Triangulation
     _power: int  # of the grid's step, as a power of two
-    _fits: bool  # whether the grid may become coarser
+    _fits: bool  # whether the grid is the finest one, and may change
     _is_exact: bool
     _flat: array[float]  # the coordinates, as they were given
     _vertices: array[int]  # by row, -1 where it was removed
@@ -233,8 +247,9 @@ class Delaunay:
             new = self._put(spare, steps)
             set_at(vertices, rows, new[: len(rows)])
             vertices += new[len(rows) :]
-            least, flat = least_rows(vertices, library.dcel_triangulation_num_vertices(spare)), self._flat + array("d", flat.tobytes())
-            spare, self._kept, self._vertices, self._rows, self._flat, self._power, self.moved = self._kept, spare, vertices, least, flat, power, moved
+            least = least_rows(vertices, library.dcel_triangulation_num_vertices(spare))
+            changed = self._kept, spare, vertices, least, self._flat + array("d", flat.tobytes()), power, moved
+            spare, self._kept, self._vertices, self._rows, self._flat, self._power, self.moved = changed
         finally:
             self._free(spare)
 
