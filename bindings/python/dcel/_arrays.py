@@ -66,14 +66,16 @@ def corners_of(corners: Iterable[Any], counts: Iterable[int] | None) -> tuple[me
     return numbers(flat(corners)), memoryview(array("I", [view.shape[1]]) * view.shape[0])  # type: ignore[index]
 
 
-def flat(values: Iterable[Any]) -> Iterable[Any]:
-    """The items of an array of two dimensions, row after row; and anything else as it is."""
+def flat(values: Iterable[Any], width: int | None = None) -> Iterable[Any]:
+    """The items of an array of two dimensions, row after row; and anything else as it is. With a width, ValueError for another one."""
     try:
         view = memoryview(values)  # type: ignore[arg-type]
     except TypeError:
         return values
     if view.ndim != 2:
         return values
+    if width not in (None, view.shape[1]):  # type: ignore[index]
+        raise ValueError(f"an array of shape (m, {width}), and not {view.shape}")
     if view.c_contiguous and view.format in FORMATS["I"] and not view.readonly:
         return view.cast("B").cast("I") if view.nbytes else array("I")
     try:

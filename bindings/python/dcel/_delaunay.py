@@ -5,16 +5,30 @@ from __future__ import annotations
 from array import array
 from collections.abc import Iterable, Sequence
 from ctypes import c_uint32, c_uint64, sizeof
-from functools import cached_property
 from operator import index
+from threading import RLock
 from typing import Any, Literal, NoReturn, Self
 
 from . import _declared
 from ._arrays import numpy, shaped, start_of, zeros
 from ._calls import library
-from ._declared import NONE
-from ._errors import Inexact, Unfinished
-from ._grid import LEAST_POWER, Grid, clipped, far_moved, floats, power_of, power_of_step, snapped
+from ._errors import Unfinished
+from ._far import far_position, nearest_row
+from ._grid import (
+    LEAST_POWER,
+    Grid,
+    clipped,
+    far_moved,
+    first_moved,
+    floats,
+    is_one,
+    least_and_most,
+    power_of,
+    power_of_step,
+    refuse_unequal,
+    rounded,
+    snapped,
+)
 from ._mesh import Dcel
 from ._tables import (
     by_table,
@@ -25,12 +39,15 @@ from ._tables import (
     least_rows,
     loop,
     named,
+    only_ones,
+    places_of,
     renumbered,
     rings,
     set_at,
     there,
     triangles_at,
 )
+from ._turns import in_turn, kept_list
 
 
 class Delaunay:
@@ -40,14 +57,17 @@ class Delaunay:
     Triangles are named by their rows in `simplices`, and a change gives them others.
 
     `points` is an array of shape (n, 2) of real numbers, in any order, or an iterable of pairs. Raises ValueError or TypeError, which
-    names the row, for nan, infinities and what is no pair of numbers, OutOfRange for whole numbers beyond 2**53, and OutOfMemory.
+    names the row, for nan, infinities, masked ones and what is no pair of numbers, OutOfRange for whole numbers beyond 2**53, and
+    OutOfMemory. Other numbers than floats are rounded to such first.
 
-    `grid` says to which multiples coordinates are rounded. "fit" is `Grid.fit`, the finest one, and a coarser one once points out of its
-    range are inserted: a coordinate moves by 2**-53 of the greatest one at most, and whole numbers don't move. With "exact" Inexact is
-    raised if a point would move. A `Grid` is kept: a point beyond 2**53 steps raises OutOfRange, whose `row` is that point's.
+    `grid` says to which multiples coordinates are rounded. "fit" is `Grid.fit`, the finest one: a coarser one while there are points out
+    of its range. A coordinate moves by 2**-53 of the greatest one at most, and whole numbers don't while all are within 2**53. With
+    "exact" Inexact is raised if a point would move. A `Grid` is kept: a point beyond 2**53 steps raises OutOfRange, whose `row` is that
+    point's.
 
-    Arrays are NumPy's if that is installed, and otherwise memoryviews of the same shape; points that are asked for are then pairs. One
-    thread at a time uses a triangulation.
+    Arrays are NumPy's if that is installed, and otherwise memoryviews of the same shape; points that are asked for are then pairs. Those
+    of attributes can't be written to. Threads may share a triangulation: they take turns. A change that an interrupt ends is made wholly
+    or not at all, but that `remove` may have removed some.
 
     >>> made = Delaunay([(0, 0), (4, 0), (0, 3), (5, 5), (2, 2)])
     >>> made
@@ -61,34 +81,40 @@ class Delaunay:
     _free = library.dcel_triangulation_free
     _kept: _declared.Triangulation
     _power: int  # of the grid's step, as a power of two
-    _fits: bool  # whether the grid may become coarser
+    _fits: bool  # whether the grid is the finest one, and may change
     _is_exact: bool
     _flat: array[float]  # the coordinates, as they were given
     _vertices: array[int]  # by row, -1 where it was removed
     _rows: array[int]  # by vertex, the least one
+    _turn: RLock  # of threads
     moved: float  #: how far the grid moved a point at most, in the unit of the coordinates: 0.0 if it moved none
 
     def __new__(cls, *given: Any, **named: Any) -> Self:
         self = super().__new__(cls)
         self._kept = _declared.Triangulation()
+        self._turn = RLock()
         return self
 
+    @in_turn
     def __init__(self, points: Iterable[Any] = (), *, grid: Grid | Literal["fit", "exact"] = "fit") -> None:
         if not isinstance(grid, Grid) and grid not in ("fit", "exact"):
             raise ValueError(f"grid: a Grid, 'fit' or 'exact', and not {grid!r}")
         self._is_exact, self._fits = grid == "exact", not isinstance(grid, Grid)
         self._power = power_of_step(grid.step) if isinstance(grid, Grid) else LEAST_POWER
         self._flat, self._vertices, self._rows, self.moved = array("d"), array("i"), array("i"), 0.0
+        self._forget()
         library.dcel_triangulation_new(self._kept)
         self.insert(points)
 
     def __del__(self) -> None:
         self._free(self._kept)
 
+    @in_turn
     def __repr__(self) -> str:
         triangles = library.dcel_triangulation_num_triangles(self._kept)
-        return f"<Delaunay: {len(self._vertices)} points, {triangles} triangles>"
+        return f"<Delaunay: {len(there(self._vertices))} points, {triangles} triangles>"
 
+    @in_turn
     def copy(self) -> Self:
         """An equal triangulation of its own. Raises OutOfMemory."""
         made = Delaunay.__new__(type(self))
@@ -112,14 +138,40 @@ class Delaunay:
         """The grid on which the points are."""
         return Grid(2.0**self._power)
 
-    @cached_property
+    @kept_list
     def points(self) -> Any:
         """The points as they were given, (n, 2), of floats, also those that were removed. A copy."""
         return shaped(self._flat[:], 2, "d")
 
+    @property
+    def ndim(self) -> int:
+        """How many coordinates a point has: 2."""
+        return 2
+
+    @property
+    def npoints(self) -> int:
+        """How many rows `points` has."""
+        return len(self._vertices)
+
+    @property
+    def nsimplex(self) -> int:
+        """How many triangles there are."""
+        return int(library.dcel_triangulation_num_triangles(self._kept))
+
+    @kept_list
+    def min_bound(self) -> Any:
+        """The least coordinates of the points that are there, (2,), of floats: inf if there are none."""
+        return least_and_most(coordinates_of(self._flat, there(self._vertices)))[0]
+
+    @kept_list
+    def max_bound(self) -> Any:
+        """The greatest coordinates of the points that are there, (2,), of floats: -inf if there are none."""
+        return least_and_most(coordinates_of(self._flat, there(self._vertices)))[1]
+
+    @in_turn
     def insert(self, points: Iterable[Any]) -> Any:
         """Adds points, (k, 2), and returns their rows: (k,). Raises what the class says; then nothing is added."""
-        flat = floats(points, "points")
+        flat = floats(points, "points", is_exact=self._is_exact)
         first, count, power = len(self._vertices), len(flat) // 2, self._power
         if self._fits:
             power = max(power, power_of(flat))
@@ -127,17 +179,32 @@ class Delaunay:
         moved = far_moved(flat, steps, power)
         if self._is_exact and moved:
             refuse_inexact(flat, steps, power, range(count))
-        if power != self._power and first:
-            self._make_coarser(flat, power)
-        else:
-            self._keep(self._put(self._kept, steps), range(first, first + count))
-        self._power, self.moved = power, max(self.moved, moved)
-        self._flat.frombytes(memoryview(flat).cast("B") if count else b"")
         self._forget()
+        if power != self._power and first:
+            self._regrid(power, flat)
+        else:
+            self._add(flat, steps, power, max(self.moved, moved))
         return shaped(array("i", range(first, first + count)), 1)
 
+    def _add(self, flat: Any, steps: Any, power: int, moved: float) -> None:
+        """Adds points: all, or if that is ended by an error or an interrupt, none."""
+        first, before = len(self._vertices), len(self._rows)
+        try:
+            vertices = self._put(self._kept, steps)
+            if len(vertices) == 1:  # in place, as all rows may be many
+                self._rows.extend([first] if vertices[0] == before else [])
+                self._vertices.extend(vertices)
+            elif vertices:
+                vertices = self._vertices + vertices
+                self._vertices, self._rows = vertices, least_rows(vertices, library.dcel_triangulation_num_vertices(self._kept))
+            self._flat.frombytes(memoryview(flat).cast("B") if len(flat) else b"")
+            self._power, self.moved = power, moved
+        except BaseException:
+            self._take_back(first, before)
+            raise
+
     def _put(self, kept: _declared.Triangulation, steps: Any) -> array[int]:
-        """Puts points into a triangulation. Returns their vertices."""
+        """Puts points into a triangulation. Returns their vertices. If it raises an error, some may be there."""
         count, told = len(steps) // 2, c_uint32()
         if count == 1:
             try:
@@ -145,100 +212,114 @@ class Delaunay:
             except Unfinished:  # the point is there, and what reads makes the triangulation whole
                 return array("i", [library.dcel_triangulation_num_vertices(kept) - 1])
             return array("i", [told.value])
-        before, vertices = library.dcel_triangulation_num_vertices(kept), zeros(count)
-        try:
-            library.dcel_triangulation_insert_all(kept, start_of(steps, _declared.Point), count, start_of(vertices), count, c_uint64())
-        except Exception:
-            self._take_back(kept, before)
-            raise
+        vertices = zeros(count)
+        library.dcel_triangulation_insert_all(kept, start_of(steps, _declared.Point), count, start_of(vertices), count, c_uint64())
         return array("i", vertices.tobytes())
 
-    def _take_back(self, kept: _declared.Triangulation, before: int) -> None:
-        """Removes the vertices from this number on. Without memory even for that, the triangulation is freed, and raises NoMesh."""
-        while (last := library.dcel_triangulation_num_vertices(kept)) > before:
-            try:
-                library.dcel_triangulation_remove(kept, last - 1, c_uint64())
-            except Unfinished:
-                continue
-            except Exception:
-                self._free(kept)
-                raise
-
-    def _keep(self, vertices: array[int], rows: range) -> None:
-        """Keeps the vertices of new rows."""
-        self._vertices.extend(vertices)
-        if len(rows) == 1:
-            self._rows.extend(rows if vertices[0] == len(self._rows) else ())
-        elif rows:
-            self._rows = least_rows(self._vertices, library.dcel_triangulation_num_vertices(self._kept))
-
-    def _make_coarser(self, flat: Any, power: int) -> None:
-        """Triangulates the points that are there anew, with more, on a coarser grid."""
-        rows = there(self._vertices)
-        old = coordinates_of(self._flat, rows)
-        steps = snapped(old, power, "points")
-        moved = far_moved(old, steps, power)
-        if self._is_exact and moved:
-            refuse_inexact(old, steps, power, rows)
-        made, vertices = _declared.Triangulation(), self._vertices[:]
-        library.dcel_triangulation_new(made)
+    def _take_back(self, first: int, before: int) -> None:
+        """Removes the rows and the vertices from these numbers on. If even that is ended, the triangulation is freed, and raises NoMesh."""
         try:
-            new = self._put(made, joined(steps, snapped(flat, power, "points")))
+            del self._flat[2 * first :], self._vertices[first:], self._rows[before:]
+            while (last := library.dcel_triangulation_num_vertices(self._kept)) > before:
+                self._take_out(last - 1)
         except BaseException:
-            self._free(made)
+            self._free(self._kept)
             raise
-        set_at(vertices, rows, new[: len(rows)])
-        self._free(self._kept)
-        self._kept, self._vertices = made, vertices + new[len(rows) :]
-        self._rows = least_rows(self._vertices, library.dcel_triangulation_num_vertices(made))
-        self.moved = max(self.moved, moved)
 
+    def _take_out(self, vertex: int) -> None:
+        """Removes a vertex, whose number the last one gets."""
+        try:
+            library.dcel_triangulation_remove(self._kept, vertex, c_uint64())
+        except Unfinished:  # the vertex is gone, and what reads makes the triangulation whole
+            pass
+
+    def _regrid(self, power: int, flat: Any) -> None:
+        """Triangulates the points that are there anew, with more, on another grid. If that is ended, all stays."""
+        rows = there(self._vertices)
+        every = joined(coordinates_of(self._flat, rows), flat)
+        steps = snapped(every, power, "points")
+        moved = far_moved(every, steps, power)
+        if self._is_exact and moved:
+            refuse_inexact(every, steps, power, rows)
+        spare, vertices = _declared.Triangulation(), self._vertices[:]
+        try:
+            library.dcel_triangulation_new(spare)
+            new = self._put(spare, steps)
+            set_at(vertices, rows, new[: len(rows)])
+            vertices += new[len(rows) :]
+            least = least_rows(vertices, library.dcel_triangulation_num_vertices(spare))
+            changed = self._kept, spare, vertices, least, self._flat + array("d", flat.tobytes()), power, moved
+            spare, self._kept, self._vertices, self._rows, self._flat, self._power, self.moved = changed
+        finally:
+            self._free(spare)
+
+    @in_turn
     def remove(self, rows: int | Iterable[int]) -> None:
         """Removes the points of some rows, and no other point gets another row. An equal point stays.
 
         Raises IndexError for a row that isn't there or was removed, and TypeError for what is no row; then nothing is removed. If memory
         runs out, OutOfMemory: some are removed then, whose `vertex_to_simplex` is -1."""
         wanted = self._wanted(rows)
-        vertices = self._vertices[:]
-        for row in wanted:
-            vertices[row] = -1
-        gone = sorted({self._vertices[row] for row in wanted}.difference(vertices), reverse=True)
-        where, moved, left = array("i", range(len(self._rows))), c_uint64(), set(gone)
+        gone = only_ones(self._vertices, wanted, len(self._rows))
+        self._forget()
         try:
             for vertex in gone:
-                try:
-                    library.dcel_triangulation_remove(self._kept, vertex, moved)
-                except Unfinished:  # the vertex is gone, and what reads makes the triangulation whole
-                    pass
-                left.discard(vertex)
-                last = where.pop()
-                if moved.value != NONE:
-                    where[vertex] = last
-        finally:
-            for row in wanted:
-                if self._vertices[row] in left:
-                    vertices[row] = self._vertices[row]
-            self._vertices = renumbered(vertices, where, len(self._rows))
-            self._rows = least_rows(self._vertices, len(where))
-            self._forget()
+                self._take_out(vertex)
+            self._leave_out(wanted, gone)
+        except BaseException:
+            self._catch_up(wanted, gone)
+            raise
+        self._refit(wanted)
 
-    def _wanted(self, rows: int | Iterable[int]) -> set[int]:
-        """The rows that are named, which are there."""
+    def _leave_out(self, wanted: list[int], gone: list[int]) -> None:
+        """Leaves out rows, and of their vertices, which were to go one after the other, those that have gone."""
+        before = len(self._rows)
+        count = library.dcel_triangulation_num_vertices(self._kept)
+        vertices, left = self._vertices[:], set(gone[before - count :])
+        for row in wanted:
+            if vertices[row] not in left:
+                vertices[row] = -1
+        vertices = renumbered(vertices, gone[: before - count], before)
+        self._vertices, self._rows = vertices, least_rows(vertices, count)
+
+    def _catch_up(self, wanted: list[int], gone: list[int]) -> None:
+        """Leaves out what has gone, if that isn't done yet. If even that is ended, the triangulation is freed, and raises NoMesh."""
+        try:
+            if library.dcel_triangulation_num_vertices(self._kept) < len(self._rows):
+                self._leave_out(wanted, gone)
+        except BaseException:
+            self._free(self._kept)
+            raise
+
+    def _refit(self, rows: list[int]) -> None:
+        """Takes the finest grid again, once the points of some rows, which may have been the farthest, are removed. Without memory for
+        that it stays."""
+        if not self._fits or power_of(coordinates_of(self._flat, rows)) < self._power:
+            return
+        power = power_of(coordinates_of(self._flat, there(self._vertices)))
+        if power < self._power:
+            try:
+                self._regrid(power, array("d"))
+            except MemoryError:
+                pass
+
+    def _wanted(self, rows: int | Iterable[int]) -> list[int]:
+        """The rows that are named, which are there, each once."""
         given = rows.tolist() if hasattr(rows, "tolist") else rows
         wanted = set()
         for row in [given] if isinstance(given, int) else given:
             try:
-                row = index(row)
+                row = index(None if isinstance(row, bool) else row)  # a mask has no rows
             except TypeError:
                 raise TypeError(f"rows: {row!r} is no row") from None
             if not 0 <= row < len(self._vertices) or self._vertices[row] < 0:
                 raise IndexError(f"rows: there is no row {row}" if not 0 <= row < len(self._vertices) else f"rows: row {row} was removed")
             wanted.add(row)
-        return wanted
+        return list(wanted)
 
     def _forget(self) -> None:
-        """Forgets arrays of before a change."""
-        for name in [it for it in self.__dict__ if isinstance(getattr(type(self), it, None), cached_property)]:
+        """Forgets arrays, before a change."""
+        for name in [it for it in self.__dict__ if isinstance(getattr(type(self), it, None), kept_list)]:
             del self.__dict__[name]
 
     # Lists.
@@ -255,25 +336,25 @@ class Delaunay:
         call(self._whole(), start_of(found, kind), count, c_uint64())
         return found
 
-    @cached_property
+    @kept_list
     def simplices(self) -> Any:
         """The triangles, (m, 3), of 32 bits: the rows of their corners, counterclockwise."""
         count = library.dcel_triangulation_num_triangles(self._kept)
         return self._by_row(self._listed(library.dcel_triangulation_triangles, _declared.Triangle, count), 3)
 
-    @cached_property
+    @kept_list
     def neighbors(self) -> Any:
         """The triangles beside each, (m, 3), of 32 bits: across from each of its corners in `simplices`, -1 where there is none."""
         count = library.dcel_triangulation_num_triangles(self._kept)
         return shaped(self._listed(library.dcel_triangulation_neighbors, _declared.Across, count), 3)
 
-    @cached_property
+    @kept_list
     def edges(self) -> Any:
         """The edges, (e, 2), of 32 bits: the rows of their ends."""
         count = library.dcel_triangulation_num_edges(self._kept)
         return self._by_row(self._listed(library.dcel_triangulation_edges, _declared.Ends, count), 2)
 
-    @cached_property
+    @kept_list
     def hull(self) -> Any:
         """The rows of the points on the convex hull, counterclockwise, (h,), of 32 bits: also those between corners of it.
 
@@ -283,12 +364,12 @@ class Delaunay:
         library.dcel_triangulation_hull(self._whole(), start_of(found), count, needed)
         return self._by_row(found[: needed.value], 1)
 
-    @cached_property
+    @kept_list
     def convex_hull(self) -> Any:
         """The edges of the convex hull, (h, 2), of 32 bits: the rows of their ends, counterclockwise, one after the other."""
         return shaped(loop(self.hull), 2)
 
-    @cached_property
+    @kept_list
     def transform(self) -> Any:
         """What makes barycentric coordinates of points, (m, 3, 2), of floats, as scipy's: with T = transform[k, :2] and r = transform[k, 2]
         the first two of point x are T @ (x - r), and the third is what they lack to 1. Rounded; of a triangle too thin for floats, nan.
@@ -304,28 +385,37 @@ class Delaunay:
         inverse[~found.isfinite(inverse).all(axis=1)] = found.nan
         return found.concatenate([inverse.reshape(-1, 2, 2), last[:, None]], 1)
 
-    @cached_property
+    @kept_list
     def vertex_to_simplex(self) -> Any:
         """For each row a triangle that has its point as a corner, (n,), of 32 bits, -1 if none has or it was removed."""
         return shaped(corner_triangles(self.simplices, self._vertices, self._rows), 1)
 
-    @cached_property
+    @kept_list
     def coplanar(self) -> Any:
         """The points that are equal to one before them, (k, 3), of 32 bits: the row, a triangle at the point or -1, and the least row of
         the equal points, which stands for it."""
         return shaped(equal_ones(self._vertices, self._rows, self.vertex_to_simplex), 3)
 
-    @cached_property
+    @kept_list
     def vertex_neighbor_vertices(self) -> tuple[Any, Any]:
         """The rows that edges join to each, as two arrays of 32 bits: those of row r are indices[indptr[r] : indptr[r + 1]], ascending."""
         indptr, indices = rings(self.edges, len(self._vertices))
         return shaped(indptr, 1), shaped(indices, 1)
 
-    @cached_property
+    @kept_list
     def _faces(self) -> memoryview:
         """The face of each half edge."""
         count = 2 * library.dcel_triangulation_num_edges(self._kept)
         return memoryview(self._listed(library.dcel_triangulation_directed_edges, _declared.HalfEdge, count))[3::4]
+
+    @kept_list
+    def _border(self) -> Any:
+        """The half edges of the outer face."""
+        return places_of(self._faces, 0)
+
+    def _steps(self, row: int) -> tuple[int, int]:
+        """How many steps of the grid the coordinates of a row are."""
+        return rounded(self._flat[2 * int(row) : 2 * int(row) + 2], self._power)
 
     def _by_row(self, vertices: array[int], width: int) -> Any:
         """Lists vertices by their rows. Of 2**32 - 1, which is none, -1 is made."""
@@ -341,37 +431,50 @@ class Delaunay:
         library.dcel_triangulation_locate_all(self._whole(), *starts, c_uint64())
         return found
 
+    @in_turn
     def find_simplex(self, xi: Any) -> Any:
         """A triangle in which each point is, (..), of 32 bits, for points (.., 2): -1 outside of the hull. On a side it is either one.
 
         Points are rounded to the grid. Raises ValueError or TypeError, which names the row, for what are no points, OutOfMemory."""
         steps, far = clipped(floats(xi, "xi", True), self._power)
-        triangles = triangles_at(self._positions(steps), self._faces, by_table(self.vertex_to_simplex, self._rows))
+        triangles = triangles_at(self._positions(steps), lambda: self._faces, lambda: by_table(self.vertex_to_simplex, self._rows))
         for row in far:
             triangles[row] = -1
         return in_shape(triangles, xi, "i")
 
+    @in_turn
     def locate(self, xi: Any) -> tuple[Any, Any]:
         """What is where each point is, for points (.., 2), exactly: a `Place`, of 8 bits, and its number, of 32 bits, both (..).
 
         ON_FACE has a row of `simplices`, ON_EDGE and OUTSIDE one of `edges`: outside, that of an edge of the hull whose outer side the
         point is on. ON_VERTEX has a row of `points`, as BEYOND_LINE: while all points are on one line, the end of it before the point.
-        NOWHERE has -1: there is at most one point, and elsewhere. Points are rounded to the grid. Raises OutOfRange for those beyond
-        2**53 steps of it, ValueError or TypeError for what are no points, OutOfMemory."""
-        kinds, numbers = named(self._positions(snapped(floats(xi, "xi", True), self._power, "xi")), self._rows)
+        NOWHERE has -1: there is at most one point, and elsewhere. Points are rounded to the grid. Raises what `find_simplex` does."""
+        flat = floats(xi, "xi", True)
+        steps, far = clipped(flat, self._power)
+        positions = self._positions(steps)
+        for row in far:
+            place = slice(2 * row, 2 * row + 2)
+            positions[place] = far_position(self, rounded(flat[place], self._power), positions[place])
+        kinds, numbers = named(positions, self._rows)
         return in_shape(kinds, xi, "B"), in_shape(numbers, xi, "i")
 
+    @in_turn
     def nearest(self, xi: Any) -> Any:
         """The row of the point that is nearest to each of some points, (..), of 32 bits, for points (.., 2): -1 if there is none. Of
         several that are equally near it is any.
 
-        Points are rounded to the grid. Raises what `locate` does."""
-        steps = snapped(floats(xi, "xi", True), self._power, "xi")
+        Points are rounded to the grid. Raises what `find_simplex` does."""
+        flat = floats(xi, "xi", True)
+        steps, far = clipped(flat, self._power)
         count = len(steps) // 2
         found = zeros(count)
         library.dcel_triangulation_nearest_all(self._whole(), start_of(steps, _declared.Point), count, start_of(found), count, c_uint64())
-        return in_shape(by_table(self._rows, found), xi, "i")
+        rows = by_table(self._rows, found)
+        for row in far if len(self._rows) else ():
+            rows[row] = nearest_row(self, rounded(flat[2 * row : 2 * row + 2], self._power), int(rows[row]))
+        return in_shape(rows, xi, "i")
 
+    @in_turn
     def mesh(self) -> Dcel:
         """The triangulation as a mesh of its own, with the same edges; triangle t is face t + 1. The datum of a vertex is its row."""
         count = 2 * library.dcel_triangulation_num_edges(self._kept)
@@ -382,14 +485,13 @@ class Delaunay:
 
 def refuse_inexact(flat: Any, steps: Any, power: int, rows: Sequence[int]) -> NoReturn:
     """Raises Inexact for the first point that isn't on the grid. Points are in these rows."""
-    places = range(0, len(flat), 2)
-    place = next(it for it in places if far_moved(flat[it : it + 2], steps[it : it + 2], power))
-    error = Inexact(f"points: {Inexact.__doc__} It is in row {rows[place // 2]}.")
-    error.row = int(rows[place // 2])
-    raise error
+    refuse_unequal("points", int(rows[first_moved(flat, steps, power)]))
 
 
 def in_shape(items: Any, xi: Any, code: str) -> Any:
     """One item for each point, in the shape of the points."""
     flat = shaped(items, 1, code)
-    return flat if (found := numpy()) is None or not hasattr(xi, "__len__") else flat.reshape(found.shape(xi)[:-1])
+    if (found := numpy()) is None:
+        return flat.cast("B").cast(code, []) if is_one(xi) else flat
+    shape = found.shape(xi) if hasattr(xi, "__len__") else (0,)
+    return flat if shape == (0,) else flat.reshape(shape[:-1])

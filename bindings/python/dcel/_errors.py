@@ -29,9 +29,9 @@ _CLOSED = Fault(FaultKind.UNUSED_FACE, 0, 0, 0, 0)
 
 
 class DcelError(Exception):
-    """A call was refused, and the mesh is as it was. `status` says why: the least of those that apply."""
+    """A call was refused, and the mesh is as it was. `status` says why: the least of those that apply. None if the library wasn't asked."""
 
-    status: ClassVar[Status]
+    status: ClassVar[Status | None] = None
 
 
 class NoSuchVertex(DcelError, IndexError):
@@ -180,7 +180,7 @@ class OutOfRange(DcelError, ValueError):
     row: int  #: of the first such point
 
 
-class Inexact(ValueError):
+class Inexact(DcelError, ValueError):
     """A point isn't on the grid."""
 
     row: int  #: of the first such point
@@ -192,7 +192,7 @@ class Unfinished(DcelError, MemoryError):
     status = Status.UNFINISHED
 
 
-ERRORS: dict[int, type[DcelError]] = {kind.status: kind for kind in DcelError.__subclasses__()}
+ERRORS: dict[int, type[DcelError]] = {kind.status: kind for kind in DcelError.__subclasses__() if kind.status is not None}
 
 for _kind in (DcelError, Inexact, *ERRORS.values()):
     _kind.__module__ = "dcel"  # where callers find it, and what they are shown

@@ -4,12 +4,12 @@ from __future__ import annotations
 
 from array import array
 from collections.abc import Iterable
-from math import frexp, hypot, isfinite, ldexp
-from numbers import Real
+from math import frexp, hypot, inf, isfinite, ldexp
+from numbers import Integral, Real
 from typing import Any, NamedTuple, NoReturn
 
 from ._arrays import numpy, shaped
-from ._errors import OutOfRange
+from ._errors import Inexact, OutOfRange
 
 MOST = 2**53  #: how many steps from 0 a coordinate may be
 LEAST_POWER = -1074  #: of the least float above 0
@@ -95,11 +95,17 @@ def clipped(flat: Any, power: int) -> tuple[Any, list[int]]:
 
 
 def round_steps(it: float, power: int) -> int:
-    """How many steps of 2**power a finite number is, rounded, or more than 2**53 if it is that many."""
+    """How many steps of 2**power a finite number is, rounded."""
     half, exponent = frexp(it)
-    if it and exponent - power > 55:
-        return 2 * MOST if it > 0 else -2 * MOST
+    if exponent - power > 53:  # a whole number, and maybe greater than floats are
+        return int(ldexp(half, 53)) << (exponent - power - 53)
     return round(ldexp(half, exponent - power))
+
+
+def rounded(point: Any, power: int) -> tuple[int, int]:
+    """How many steps of 2**power the coordinates of a point are, rounded."""
+    x, y = point
+    return round_steps(x, power), round_steps(y, power)
 
 
 def far_moved(flat: Any, steps: Any, power: int) -> float:
@@ -111,42 +117,68 @@ def far_moved(flat: Any, steps: Any, power: int) -> float:
     return max(map(hypot, apart[::2], apart[1::2]), default=0.0)
 
 
+def first_moved(flat: Any, steps: Any, power: int) -> int:
+    """The first point that isn't where so many steps of 2**power are."""
+    if (found := numpy()) is not None:
+        return int((flat != found.ldexp(steps.astype(found.float64), power)).argmax()) // 2
+    return next(place // 2 for place, it in enumerate(flat) if it != ldexp(float(steps[place]), power))
+
+
+def least_and_most(flat: Any) -> tuple[Any, Any]:
+    """The least and the greatest coordinates of points, (2,) each: inf and -inf of none."""
+    if (found := numpy()) is not None:
+        return flat.reshape(-1, 2).min(axis=0, initial=found.inf), flat.reshape(-1, 2).max(axis=0, initial=-found.inf)
+    columns = flat[::2], flat[1::2]
+    least, most = (array("d", (kind(it, default=none) for it in columns)) for kind, none in ((min, inf), (max, -inf)))
+    return shaped(least, 1, "d"), shaped(most, 1, "d")
+
+
 def refuse_far(name: str, row: int) -> NoReturn:
     error = OutOfRange(f"{name}: {OutOfRange.__doc__} It is in row {row}.")
     error.row = row
     raise error
 
 
-def floats(points: Any, name: str, is_any_shape: bool = False) -> Any:
+def refuse_unequal(name: str, row: int) -> NoReturn:
+    error = Inexact(f"{name}: {Inexact.__doc__} It is in row {row}.")
+    error.row = row
+    raise error
+
+
+def floats(points: Any, name: str, is_query: bool = False, is_exact: bool = False) -> Any:
     """The coordinates of points in a row, as they lie if they are floats of NumPy's in that order.
 
-    The points are an array of shape (n, 2), or with `is_any_shape` (.., 2), of real numbers, or an iterable of pairs. Raises ValueError or
-    TypeError, which names the row: for another shape, for what is no number, for nan and infinities, and OutOfRange for whole numbers
-    that aren't floats."""
+    The points are an array of shape (n, 2) of real numbers, or an iterable of pairs. Raises ValueError or TypeError, which names the row:
+    for another shape, for what is no number or is masked, for nan and infinities; OutOfRange for whole numbers beyond 2**53; and with
+    `is_exact` Inexact for numbers that no float is. Those of a query may be of shape (.., 2), and whole numbers of any size."""
     if not hasattr(points, "__len__"):
         points = list(points)
     if (found := numpy()) is None:
-        return each(points, name)
+        return each(points, name, is_query, is_exact)
+    if (masks := found.ma.getmask(points)).any():
+        raise ValueError(f"{name}: row {int(masks.argmax()) // 2} is masked")
     try:
         given = found.asarray(points)
     except ValueError:  # rows of other lengths
-        return found.asarray(each(points, name))
+        return found.asarray(each(points, name, is_query, is_exact))
     if given.dtype.kind not in "biuf":
         if given.dtype.kind != "O":
             raise TypeError(f"{name}: coordinates are real numbers, and not {given.dtype}")
-        return found.asarray(each(points if given.ndim != 2 else given.tolist(), name))
+        return found.asarray(each(points if given.ndim != 2 else given.tolist(), name, is_query, is_exact))
     if given.ndim == 1 and not given.size:
         return found.empty(0)
-    if given.ndim < 1 or given.shape[-1] != 2 or (given.ndim != 2 and not is_any_shape):
-        raise ValueError(f"{name}: an array of shape {'(.., 2)' if is_any_shape else '(n, 2)'}, and not {given.shape}")
-    return checked(given, name)
+    if given.ndim < 1 or given.shape[-1] != 2 or (given.ndim != 2 and not is_query):
+        raise ValueError(f"{name}: an array of shape {'(.., 2)' if is_query else '(n, 2)'}, and not {given.shape}")
+    if given.dtype.kind == "f" and isinstance(points, (list, tuple)) and not is_query and (found.abs(given) >= MOST).any():
+        return found.asarray(each(points, name, is_query, is_exact))  # whole numbers among them were rounded
+    return checked(given, name, is_query, is_exact)
 
 
-def checked(given: Any, name: str) -> Any:
+def checked(given: Any, name: str, is_query: bool, is_exact: bool) -> Any:
     """The coordinates in a row, where NumPy has them as real numbers."""
     found = numpy()
     assert found is not None
-    if given.dtype.kind in "iu" and given.dtype.itemsize == 8:
+    if given.dtype.kind in "iu" and given.dtype.itemsize == 8 and not is_query:
         far = given > MOST if given.dtype.kind == "u" else (given > MOST) | (given < -MOST)
         if far.any():
             refuse_far(name, int(far.reshape(-1).argmax()) // 2)
@@ -154,14 +186,23 @@ def checked(given: Any, name: str) -> Any:
     if not (fine := found.isfinite(flat)).all():
         place = int(fine.argmin())
         raise ValueError(f"{name}: row {place // 2} has {flat[place]}")
+    if is_exact and (unequal := flat != given.reshape(-1)).any():
+        refuse_unequal(name, int(unequal.argmax()) // 2)
     return flat
 
 
-def each(points: Iterable[Any], name: str) -> array[float]:
+def is_one(points: Any) -> bool:
+    """Whether it is one point, of two numbers, and no list of them."""
+    return hasattr(points, "__len__") and len(points) == 2 and all(isinstance(it, Real) for it in points)
+
+
+def each(points: Any, name: str, is_query: bool, is_exact: bool) -> array[float]:
     """The coordinates in a row, one point after the other."""
+    if is_query and is_one(points):
+        points = [tuple(points)]
     view = None
     try:
-        view = memoryview(points)  # type: ignore[arg-type]
+        view = memoryview(points)
     except TypeError:
         pass
     if view is not None:
@@ -174,20 +215,24 @@ def each(points: Iterable[Any], name: str) -> array[float]:
             x, y = pair
         except (TypeError, ValueError):
             raise ValueError(f"{name}: row {row} is no pair of numbers: {pair!r}") from None
-        flat.append(coordinate(x, name, row))
-        flat.append(coordinate(y, name, row))
+        for it in (x, y):
+            if isinstance(it, Integral) and not is_query and not -MOST <= it <= MOST:
+                refuse_far(name, row)
+            flat.append(coordinate(it, name, row))
+            if is_exact and flat[-1] != it:
+                refuse_unequal(name, row)
     return flat
 
 
 def coordinate(it: Any, name: str, row: int) -> float:
     """A number as a float. Raises an error that names the row."""
-    if isinstance(it, int) and abs(it) > MOST:
-        refuse_far(name, row)
     if isinstance(it, (str, bytes, complex)) or it is None:
         raise TypeError(f"{name}: row {row} has {it!r}, which is no real number")
     try:
         found = float(it)
-    except (TypeError, ValueError, OverflowError):
+    except OverflowError:
+        refuse_far(name, row)
+    except (TypeError, ValueError):
         raise TypeError(f"{name}: row {row} has {it!r}, which is no real number") from None
     if not isfinite(found):
         raise ValueError(f"{name}: row {row} has {found}")

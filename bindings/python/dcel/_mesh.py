@@ -5,10 +5,11 @@ from __future__ import annotations
 from array import array
 from collections.abc import Callable, Iterable
 from ctypes import c_bool, c_uint32, c_uint64
+from operator import index
 from typing import Any, NamedTuple, NoReturn, Self
 
 from . import _declared
-from ._arrays import corners_of, listed, number, numbers, start_of, wide, zeros
+from ._arrays import corners_of, flat, listed, number, numbers, start_of, wide, zeros
 from ._calls import library
 from ._declared import NO_LINK, NONE, Ended, RemovalState, Status
 from ._errors import Short, refused
@@ -80,6 +81,7 @@ class Links:
         return ends
 
     def __getitem__(self, edge: int) -> HalfEdge:
+        edge = index(edge)
         return HalfEdge(self.next[edge], self.prev[edge], self.origin[edge], self.face[edge])
 
 
@@ -125,15 +127,15 @@ class Dcel:
     def from_links(cls, links: Links | Iterable[int], vertices: Iterable[int], faces: Iterable[int]) -> Self:
         """The mesh with these links, and these data of its vertices and faces, face 0 first. Raises Faulty, OutOfMemory.
 
-        Links are those of `directed_edges`, or the next, prev, origin and face of each half edge in turn, of which prev isn't read. Each
-        vertex and each face is anchored at its half edge with the greatest number. If no mesh has these links, the `fault` of the error
-        says why."""
-        flat = numbers(links.flat if isinstance(links, Links) else links)
-        if len(flat) % 4:
+        Links are those of `directed_edges`, or the next, prev, origin and face of each half edge in turn, also in an array of shape (m, 4);
+        prev isn't read. Each vertex and each face is anchored at its half edge with the greatest number. If no mesh has these links, the
+        `fault` of the error says why."""
+        row = numbers(links.flat if isinstance(links, Links) else flat(links, 4))
+        if len(row) % 4:
             raise ValueError("a half edge has four links")
         made, fault = cls.__new__(cls), _declared.Fault()
         data = (*listed(numbers(vertices, "Q"), c_uint64), *listed(numbers(faces, "Q"), c_uint64))
-        library.dcel_from_links(made._mesh, start_of(flat, _declared.HalfEdge), len(flat) // 4, *data, fault)
+        library.dcel_from_links(made._mesh, start_of(row, _declared.HalfEdge), len(row) // 4, *data, fault)
         return made
 
     @classmethod

@@ -3,7 +3,7 @@
 from __future__ import annotations
 
 from array import array
-from collections.abc import Sequence
+from collections.abc import Callable, Sequence
 from typing import Any
 
 from ._arrays import numpy
@@ -46,11 +46,32 @@ def least_rows(vertices: array[int], count: int) -> array[int]:
     return rows
 
 
-def renumbered(vertices: array[int], where: array[int], before: int) -> array[int]:
-    """The vertices of rows, of which there were so many, where the one with number v is now where[v] of before."""
+def only_ones(vertices: array[int], wanted: list[int], count: int) -> list[int]:
+    """The vertices, of so many, that some rows have, and no others. The greatest are first."""
     if (found := numpy()) is not None:
+        rest = viewed(vertices).copy()
+        rest[wanted] = -1
+        stay = found.zeros(count + 1, bool)
+        stay[rest] = True  # and the last one for -1
+        these = found.unique(viewed(vertices)[wanted])
+        gone: list[int] = these[~stay[these]][::-1].tolist()
+        return gone
+    rest = vertices[:]
+    for row in wanted:
+        rest[row] = -1
+    return sorted({vertices[row] for row in wanted}.difference(rest), reverse=True)
+
+
+def renumbered(vertices: array[int], gone: list[int], before: int) -> array[int]:
+    """The vertices of rows, of which there were so many, once some went one after the other, whose numbers the last ones got. -1 for -1."""
+    found = numpy()
+    where = array("i", range(before)) if found is None else found.arange(before, dtype="i")
+    for count, vertex in enumerate(gone, 1):
+        where[vertex] = where[before - count]
+    where = where[: before - len(gone)]
+    if found is not None:
         now, at = found.full(before + 1, -1, "i"), viewed(vertices)
-        now[viewed(where)] = found.arange(len(where))
+        now[where] = found.arange(len(where))
         return kept(now[at])  # and the last one for -1
     table = array("i", [-1]) * (before + 1)
     for vertex, old in enumerate(where):
@@ -137,23 +158,32 @@ def loop(rows: Any) -> Any:
     return array("i", (it for place in range(len(rows)) for it in (rows[place - 1], rows[place])))[2:] + array("i", [rows[-1], rows[0]])
 
 
-def triangles_at(positions: array[int], faces: memoryview, of_vertex: Any) -> Any:
-    """The triangle of each position: that it is on, or one beside its edge or at its vertex, or else -1."""
+def places_of(items: memoryview, value: int) -> array[int]:
+    """Where a number is among others."""
+    if (found := numpy()) is not None:
+        return kept(found.flatnonzero(found.asarray(items) == value))
+    return array("i", (place for place, it in enumerate(items) if it == value))
+
+
+def triangles_at(positions: array[int], faces: Callable[[], memoryview], of_vertex: Callable[[], Any]) -> Any:
+    """The triangle of each position: that it is on, or one beside its edge or at its vertex, or else -1. What it needs not isn't called."""
     if (found := numpy()) is not None:
         kinds, numbers = viewed(positions)[::2], viewed(positions)[1::2]
         on_edge, on_vertex = kinds == Place.ON_EDGE, kinds == Place.ON_VERTEX
         triangles = found.where(kinds == Place.ON_FACE, numbers, -1).astype("i")
         if on_edge.any():
-            beside, halves = found.asarray(faces).astype("q"), numbers[on_edge]
+            beside, halves = found.asarray(faces()).astype("q"), numbers[on_edge]
             triangles[on_edge] = found.maximum(beside[halves], beside[halves ^ 1]) - 1
-        triangles[on_vertex] = of_vertex[numbers[on_vertex]]
+        if on_vertex.any():
+            triangles[on_vertex] = of_vertex()[numbers[on_vertex]]
         return triangles
-    plain = array("i")
-    for kind, number in zip(positions[::2], positions[1::2], strict=True):
+    plain, kinds = array("i"), positions[::2]
+    beside, corner_of = faces() if Place.ON_EDGE in kinds else (), of_vertex() if Place.ON_VERTEX in kinds else ()
+    for kind, number in zip(kinds, positions[1::2], strict=True):
         if kind == Place.ON_EDGE:
-            number = max(faces[number], faces[number ^ 1]) - 1
+            number = max(beside[number], beside[number ^ 1]) - 1
         elif kind == Place.ON_VERTEX:
-            number = of_vertex[number]
+            number = corner_of[number]
         plain.append(number if kind in (Place.ON_FACE, Place.ON_EDGE, Place.ON_VERTEX) else -1)
     return plain
 

@@ -116,6 +116,17 @@ class Out(unittest.TestCase):
             self.assertEqual(list(links.to), [links.origin[edge ^ 1] for edge in range(len(links))])
         self.assertEqual(repr(round_().directed_edges()), "<Links: 12 half edges>")
 
+    def test_rows_of_links(self) -> None:
+        """Links may be an array with a row for each half edge. A half edge has one number."""
+        flat = round_().directed_edges().flat
+        data = range(5), range(4)
+        for given in (flat, memoryview(flat).cast("B").cast("I", (12, 4)), memoryview(array("q", flat)).cast("B").cast("q", (12, 4))):
+            self.assertEqual(Dcel.from_links(given, *data).directed_edges().flat, flat)
+        with self.assertRaisesRegex(ValueError, r"\(4, 12\)"):
+            Dcel.from_links(memoryview(flat).cast("B").cast("I", (4, 12)), *data)
+        with self.assertRaises(TypeError):
+            round_().directed_edges()[0:2]  # type: ignore[index]
+
     def test_no_links(self) -> None:
         links = Dcel().directed_edges()
         self.assertEqual((len(links), list(links.next), list(links.flat)), (0, [], []))

@@ -7,12 +7,20 @@ import itertools
 import math
 import pickle
 import random
+import sys
+import threading
 import unittest
 from array import array
+from collections.abc import Callable
+from decimal import Decimal
 from fractions import Fraction
+from pathlib import Path
 from typing import Any
+from unittest import mock
 
-from dcel import Delaunay, Grid, Inexact, OutOfRange, Place
+import dcel
+from dcel import DcelError, Delaunay, Grid, Inexact, NoMesh, OutOfMemory, OutOfRange, Place
+from dcel._calls import library
 
 LIMIT = 2**53
 FIVE = [(0, 0), (4, 0), (0, 3), (5, 5), (2, 2)]
@@ -102,15 +110,29 @@ class In(unittest.TestCase):
                     Delaunay([(1, 1), far, far])
                 self.assertEqual(raised.exception.row, 1)
 
+    def test_other_numbers(self) -> None:
+        """A whole number beyond 2**53 is refused beside floats too, and with an exact grid what no float is. Else that is rounded."""
+        for grid in ("fit", "exact"):
+            with self.assertRaisesRegex(OutOfRange, "row 1"):
+                Delaunay([(0.0, 0), (LIMIT + 1, 1), (5, 7)], grid=grid)  # type: ignore[arg-type]
+        self.assertEqual(Delaunay([(0.5, 0), (LIMIT, 1), (2.0**60, 7)]).points.tolist()[1:], [[LIMIT, 1], [2.0**60, 7]])
+        for it in (Fraction(1, 3), Decimal("0.1"), 1 + Fraction(1, 2**60)):
+            with self.subTest(number=it), self.assertRaisesRegex(Inexact, "row 1"):
+                Delaunay([(0, 0.5), (1, it)], grid="exact")
+            self.assertEqual(Delaunay([(0, 0.5), (1, it)]).points[1, 1], float(it))
+        self.assertEqual(Delaunay([(Fraction(1, 4), Decimal("0.5"))], grid="exact").moved, 0.0)
+
     def test_given_points_stay(self) -> None:
-        """The points are copied."""
+        """The points are copied, and what is shown can't be written to."""
         given = array("q", [0, 0, 4, 0, 0, 3])
         made = Delaunay(memoryview(given).cast("B").cast("q", (3, 2)))
         given[0] = 9
         self.assertEqual((made.points.tolist(), repr(made)), ([[0, 0], [4, 0], [0, 3]], "<Delaunay: 3 points, 1 triangles>"))
-        made.points[0, 0] = 9
         made.insert([(9, 9)])
         self.assertEqual(made.points.tolist()[0], [0, 0])
+        for name in ("points", "simplices", "neighbors", "edges", "hull", "convex_hull", "vertex_to_simplex", "min_bound", "max_bound"):
+            self.assertTrue(memoryview(getattr(made, name)).readonly)
+        self.assertTrue(all(memoryview(it).readonly for it in made.vertex_neighbor_vertices))
 
 
 class OnGrid(unittest.TestCase):
@@ -147,7 +169,8 @@ class OnGrid(unittest.TestCase):
         self.assertEqual(Delaunay(FIVE, grid="exact").moved, 0.0)
         with self.assertRaisesRegex(Inexact, "row 1") as raised:
             Delaunay([(1.0, 2.0), (2.0**-54, 0.5)], grid="exact")
-        self.assertEqual(raised.exception.row, 1)
+        self.assertEqual((raised.exception.row, raised.exception.status), (1, None))
+        self.assertIsInstance(raised.exception, DcelError)
         made = Delaunay([(2.0**-50, 0), (1, 1)], grid="exact")
         made.remove([0])
         made.insert([(2.0**-53, 0)])
@@ -176,6 +199,24 @@ class OnGrid(unittest.TestCase):
         self.assertTrue(made.grid.step > before.step and made.moved == 0.0)
         self.assertEqual(made.nearest([(999, 999), (4, 0)]).tolist(), [6, 4])
         self.assertEqual([it[::2] for it in made.coplanar.tolist()], [[5, 0], [7, 4]])
+
+    def test_finer(self) -> None:
+        """Once the farthest points are removed, the grid is the finest one again, and points that it made equal aren't."""
+        points = [(0.25, 0.5), (1, 0.75), (0.5, 0), (0, 1)]
+        made = Delaunay(points)
+        before = made.grid
+        made.insert([(1e20, 0), (3, 0)])
+        self.assertEqual((len(made.simplices), made.moved), (0, 3.0))
+        made.remove(4)
+        self.assertEqual((made.grid, made.moved), (Grid.fit([(3, 0)]), 0.0))
+        made.remove([5, 1])
+        self.assertEqual((made.grid, made.nearest(points).tolist()), (before, [0, 0, 2, 3]))
+        made.remove([0, 2, 3])
+        self.assertEqual(made.grid, Delaunay().grid)
+        self.assertEqual((made.insert(points).tolist(), made.nearest(points).tolist()), ([6, 7, 8, 9], [6, 7, 8, 9]))
+        kept = Delaunay([(0.1, 0), (2, 9)], grid=Grid(1.0))
+        kept.remove(1)
+        self.assertEqual(kept.grid, Grid(1.0))
 
 
 class Changes(unittest.TestCase):
@@ -210,11 +251,12 @@ class Changes(unittest.TestCase):
 
     def test_rows(self) -> None:
         made = Delaunay([*FIVE, (4, 0)])
-        for wrong, kind in (([6], IndexError), ([-1], IndexError), ([0, 1.5], TypeError), (["a"], TypeError), ([[1]], TypeError), (None, TypeError)):
+        for wrong, kind in (([6], IndexError), ([-1], IndexError), ([0, 1.5], TypeError), (["a"], TypeError), ([[1]], TypeError), (None, TypeError), (True, TypeError), ([False, True], TypeError)):
             with self.subTest(rows=wrong), self.assertRaises(kind):
                 made.remove(wrong)  # type: ignore[arg-type]
         made.remove(1)
         self.assertEqual((made.nearest([(4, 0)]).tolist(), made.coplanar.tolist()), ([5], []))
+        self.assertEqual((repr(made), made.npoints), ("<Delaunay: 5 points, 4 triangles>", 6))
         with self.assertRaisesRegex(IndexError, "row 1 was removed"):
             made.remove([0, 1])
         self.assertEqual(made.nearest([(0, 0)]).tolist(), [0])
@@ -230,6 +272,130 @@ class Changes(unittest.TestCase):
         self.assertTrue(all(len(it.simplices) == 4 for it in others))
         with self.assertRaisesRegex(TypeError, "pickled"):
             pickle.dumps(made)
+
+    def test_new_again(self) -> None:
+        """Arrays of before are forgotten, also if the points are refused."""
+        made = Delaunay(FIVE)
+        self.assertEqual((len(made.simplices), len(made.points)), (4, 5))
+        with self.assertRaises(TypeError):
+            made.__init__([(1, "a")])  # type: ignore[misc]
+        self.assertEqual((len(made.simplices), len(made.points), made.nearest([(0, 0)]).tolist()), (0, 0, [-1]))
+
+    def test_without_memory(self) -> None:
+        """Points that were inserted before memory ran out are taken back, and arrays are of what is left."""
+        made, insert_all = Delaunay([*FIVE, (0, 1), (3, 0)]), library.dcel_triangulation_insert_all
+
+        def inserts_and_fails(*given: Any) -> None:
+            insert_all(*given)
+            raise OutOfMemory
+
+        before = made.simplices
+        with mock.patch.object(library, "dcel_triangulation_insert_all", inserts_and_fails), self.assertRaises(OutOfMemory):
+            made.insert([(1, 1), (2, 1), (3, 2), (1, 1)])
+        self.assertIsNot(made.simplices, before)
+        self.assertEqual(made.simplices.tolist(), made.copy().simplices.tolist())
+        self.assertEqual((sorted(map(sorted, made.simplices.tolist())), len(made.points)), (sorted(map(sorted, before.tolist())), 7))
+
+    def test_threads(self) -> None:
+        """Threads that share a triangulation take turns, however often they are switched."""
+        made, each = Delaunay(FIVE), 60
+        failed: list[BaseException] = []
+
+        def change(left: int) -> None:
+            try:
+                for turn in range(each):
+                    rows = made.insert([(left + turn, turn * turn % 97), (left, turn)] if turn % 2 else [(left + turn, turn)]).tolist()
+                    if turn % 3 == 0:
+                        made.remove(rows)
+                    self.assertEqual(made.nearest([(0, 0)]).tolist(), [0])
+                    self.assertLess(max(made.simplices.tolist()[-1]), made.npoints)
+            except BaseException as error:
+                failed.append(error)
+                raise
+
+        interval = sys.getswitchinterval()
+        sys.setswitchinterval(1e-6)
+        threads = [threading.Thread(target=change, args=(left,)) for left in (1000, -1000)]
+        for thread in threads:
+            thread.start()
+        for thread in threads:
+            thread.join()
+        sys.setswitchinterval(interval)
+        self.assertEqual((failed, made.npoints), ([], 5 + 3 * each))
+        points = made.points.tolist()
+        live = [row for row, it in enumerate(made.vertex_to_simplex) if it >= 0]
+        self.assertEqual([points[row] for row in made.nearest([points[row] for row in live])], [points[row] for row in live])
+        self.assertEqual(self.triangles(made), self.triangles(Delaunay([points[row] for row in live], grid=made.grid)))
+
+
+class Interrupts(unittest.TestCase):
+    """A change that is interrupted before any line of the package is made wholly or not at all, or the triangulation is freed."""
+
+    def interrupted(self, call: Callable[[], object], lines: int) -> bool:
+        """Whether a call is interrupted once it has come to so many lines of the package."""
+        folder = str(Path(dcel.__file__).parent)
+
+        def trace(frame: Any, event: str, given: Any) -> Any:
+            nonlocal lines
+            if not frame.f_code.co_filename.startswith(folder) or frame.f_code.co_filename.endswith("_turns.py"):
+                return None
+            lines -= event == "line"
+            if lines < 0:
+                raise KeyboardInterrupt
+            return trace
+
+        before = sys.gettrace()
+        sys.settrace(trace)
+        try:
+            call()
+        except KeyboardInterrupt:
+            return True
+        finally:
+            sys.settrace(before)
+        return False
+
+    def check(self, made: Delaunay) -> tuple[int, ...]:
+        """Everything in it is of the same points. Returns the rows that are there."""
+        points, live = made.points.tolist(), [row for row, it in enumerate(made.vertex_to_simplex) if it >= 0]
+        self.assertEqual(made.npoints, len(points))
+        self.assertEqual([points[row] for row in made.nearest([points[row] for row in live])], [points[row] for row in live])
+        fresh = Delaunay([points[row] for row in live])
+        self.assertEqual((made.grid >= fresh.grid, made.moved, len(made.simplices)), (True, 0.0, len(fresh.simplices)))
+        self.assertLessEqual({*sum(made.simplices.tolist(), [])}, {*live})
+        self.assertEqual(made.simplices.tolist(), made.copy().simplices.tolist())
+        rows = made.insert([(1, 0.25), (0.5, 0.5)]).tolist()
+        self.assertEqual((rows, made.nearest([(1, 0.25), (0.5, 0.5)]).tolist()), ([len(points), len(points) + 1], rows))
+        return tuple(live)
+
+    def test_each(self) -> None:
+        all_rows = tuple(range(7))
+        calls: list[tuple[Callable[[Delaunay], object], set[tuple[int, ...]]]] = [
+            *((lambda made, it=it: made.insert(it), {all_rows, all_rows + tuple(range(7, 7 + len(it)))}) for it in ([(1, 1)], [(1, 1), (3, 1), (2, 0.5)], [(9, 9), (0.25, 1)])),
+            *((lambda made, it=it: made.remove(it), {all_rows, tuple(row for row in all_rows if row not in it)}) for it in ([4], [3])),
+            (lambda made: made.remove([4, 5, 6]), {all_rows, (0, 1, 2, 3), *((0, 1, 2, 3, *some) for some in ((4,), (5,), (6,), (4, 5), (4, 6), (5, 6)))}),
+        ]
+        for call, wanted in calls:
+            found = set()
+            for lines in itertools.count():
+                made = Delaunay([*FIVE, (3, 1), (1, 2)])
+                self.assertEqual((len(made.simplices), len(made.points), len(made.edges)), (8, 7, 14))
+                ended = not self.interrupted(lambda: call(made), lines)  # noqa: B023
+                with self.subTest(lines=lines):
+                    found.add(self.check(made))
+                if ended:
+                    break
+            self.assertLessEqual(found, wanted)
+            self.assertTrue(all_rows in found and len(found) > 1)
+
+    def test_twice(self) -> None:
+        """One that can't be taken back is freed."""
+        made = Delaunay(FIVE)
+        with mock.patch.object(Delaunay, "_take_out", side_effect=KeyboardInterrupt), mock.patch("dcel._delaunay.least_rows", side_effect=KeyboardInterrupt):
+            with self.assertRaises(KeyboardInterrupt):
+                made.insert([(1, 1), (3, 1)])
+        for call in (lambda: made.simplices, lambda: made.nearest([(0, 0)]), lambda: made.insert([(1, 1)])):
+            with self.assertRaises(NoMesh):
+                call()
 
 
 class Out(unittest.TestCase):
@@ -272,10 +438,65 @@ class Out(unittest.TestCase):
         found = made.find_simplex([(0.5, 0.75), (1, 1), (4, 0), (-1, 1), (1e300, 0), (0, -8)]).tolist()
         self.assertEqual((found[0], found[3:]), (numbers[0], [-1] * 3))
         self.assertTrue({0, 4} < set(made.simplices.tolist()[found[1]]) and 1 in made.simplices.tolist()[found[2]])
-        for call in (made.locate, made.nearest):
+        self.assertEqual(made.nearest([(0, 0), (9, 0), (0, 10**300)]).tolist(), [0, 1, 3])
+        for call in (made.find_simplex, made.locate, made.nearest):
             with self.assertRaisesRegex(OutOfRange, "xi: .* row 1") as raised:
-                call([(0, 0), (9, 0)])
+                call([(0, 0), (10**400, 0)])
             self.assertEqual(raised.exception.row, 1)
+
+    def test_what_a_query_makes(self) -> None:
+        """Where it is enough to ask the library, no list is made."""
+        made = Delaunay(FIVE)
+        self.assertEqual(made.find_simplex([(0.5, 0.75), (-1, 1)]).tolist()[1], -1)
+        self.assertFalse({"simplices", "_faces", "vertex_to_simplex"} & set(vars(made)))
+
+    def test_shapes(self) -> None:
+        made = Delaunay(FIVE)
+        for call in (made.find_simplex, made.nearest, lambda xi: made.locate(xi)[1]):
+            self.assertEqual((call([]).tolist(), call(()).tolist()), ([], []))
+            self.assertEqual((call((4, 0)).tolist(), call((4, 0)).shape), (call([(4, 0)]).tolist()[0], ()))
+            self.assertEqual(call(it for it in FIVE).tolist(), call(FIVE).tolist())
+
+    def test_names(self) -> None:
+        made = Delaunay([*FIVE, (-1, 9)])
+        made.remove(5)
+        self.assertEqual((made.ndim, made.npoints, made.nsimplex), (2, 6, 4))
+        self.assertEqual((made.min_bound.tolist(), made.max_bound.tolist()), ([0, 0], [5, 5]))
+        self.assertEqual((Delaunay().min_bound.tolist(), Delaunay().max_bound.tolist()), ([math.inf] * 2, [-math.inf] * 2))
+
+    def test_far(self) -> None:
+        """Any point may be asked for, also beyond the grid."""
+        for seed in range(60):
+            random.seed(seed)
+            width, count = random.choice([2, 9, 100]), random.choice([0, 1, 2, 3, 8, 30])
+            points = [(random.randint(-width, width), random.randint(-width, width)) for _ in range(count)]
+            points = [(x, 2 * x) for x, _ in points] if seed % 5 == 0 else points
+            made = Delaunay(points)
+            far = [(random.choice([-1, 1]) * random.randint(0, 5 * width), random.randint(-5 * width, 5 * width)) for _ in range(20)]
+            far += [(it, 2 * it) for it in (-(2**70), -9 * width, 9 * width, 2**70)] + [(2**600, -1), (width + 1, -(2**300))]
+            with self.subTest(seed=seed):
+                self.check_far(made, points, far)
+
+    def check_far(self, made: Delaunay, points: list[Point], far: list[Point]) -> None:
+        def apart(row: int, point: Point) -> int:
+            return (points[row][0] - point[0]) ** 2 + (points[row][1] - point[1]) ** 2
+
+        edges, triangles = made.edges.tolist(), made.simplices.tolist()
+        outer = {(b, a) for (a, b) in made.convex_hull.tolist()}
+        places = zip(far, made.nearest(far).tolist(), made.find_simplex(far).tolist(), *(it.tolist() for it in made.locate(far)), strict=True)
+        for point, near, triangle, kind, number in places:
+            self.assertEqual(apart(near, point) if points else near, min((apart(row, point) for row in range(len(points))), default=-1))
+            if kind == Place.OUTSIDE:
+                sides = [it for it in (tuple(edges[number]), tuple(edges[number][::-1])) if it in outer]
+                self.assertTrue(any(area(points[a], points[b], point) > 0 for a, b in sides))
+            elif kind == Place.BEYOND_LINE:
+                self.assertEqual((triangles, number), ([], near))
+                self.assertTrue(len(edges) and all(area(points[a], points[b], point) == 0 for a, b in edges))
+            elif kind == Place.NOWHERE:
+                self.assertTrue(number == -1 and not edges and point not in points)
+            elif kind == Place.ON_FACE:
+                self.assertEqual(triangle, number)
+            self.assertEqual(triangle >= 0, kind <= Place.ON_VERTEX and len(triangles) > 0)
 
     def test_mesh(self) -> None:
         made = Delaunay([*FIVE, (4, 0)])

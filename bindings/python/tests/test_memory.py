@@ -117,8 +117,10 @@ class Memory(unittest.TestCase):
         wanted = sorted(map(sorted, standing.simplices.tolist()))
         for met in range(1000):
             made = standing.copy()
+            self.assertEqual(len(made.simplices), 4)  # which is kept until a change
             if not self.refused(met, lambda: call(made)):  # noqa: B023
                 return met
+            self.assertEqual(made.simplices.tolist(), made.copy().simplices.tolist())
             self.assertEqual((sorted(map(sorted, made.simplices.tolist())), len(made.points)), (wanted, 5))
         self.fail("it finds no memory, however much there is")
 

@@ -13,7 +13,7 @@ import matplotlib
 matplotlib.use("agg")
 import numpy as np
 import scipy.spatial
-from dcel import Delaunay
+from dcel import Delaunay, Inexact
 from matplotlib import pyplot as plt
 
 BOTH = (scipy.spatial.Delaunay, Delaunay)
@@ -101,9 +101,11 @@ class Random(unittest.TestCase):
                 self.assertEqual((here.shape, here.dtype), (there.shape, there.dtype))
                 rows = [np.where(at[..., None] < 0, -1, np.sort(it.simplices)[at]) for it, at in ((ours, here), (theirs, there))]
                 np.testing.assert_array_equal(*rows)
+                for name in ("ndim", "npoints", "nsimplex", "min_bound", "max_bound"):
+                    np.testing.assert_array_equal(getattr(ours, name), getattr(theirs, name))
                 self.assertEqual(ours.find_simplex(xi[0, 0]).shape, ())
-                nearest = scipy.spatial.cKDTree(points).query(xi)[1]
-                np.testing.assert_array_equal(ours.nearest(xi), nearest)
+                xi = np.concatenate([xi, 9 * xi])  # and beyond the grid
+                np.testing.assert_array_equal(ours.nearest(xi), scipy.spatial.cKDTree(points).query(xi)[1])
                 fine = np.isfinite(ours.transform).all(axis=(1, 2))
                 np.testing.assert_allclose(ours.transform[fine][:, 2], points[ours.simplices[fine, 2]])
 
@@ -119,7 +121,8 @@ class Random(unittest.TestCase):
             self.assertIn(row, made.simplices[made.vertex_to_simplex[equal]])
 
     def test_forms(self) -> None:
-        """Any real kind of numbers and any order in memory."""
+        """Any real kind of numbers and any order in memory. In a query whole numbers are of any size."""
+        self.assertEqual(Delaunay(self.fine).nearest(np.array([[2**63 - 1, 0], [0, 2**60]])).tolist(), [1, 2])
         points = np.random.default_rng(0).permutation(400)[:60].reshape(30, 2)
         wanted = triangles(Delaunay(points))
         forms = [points.astype(kind) for kind in ("i2", "u4", "i8", "u8", "f2", "f4", "f8", ">i4", ">f8", "longdouble", object)]
@@ -141,8 +144,24 @@ class Random(unittest.TestCase):
         for given, kind, words in cases:
             with self.subTest(given=given), self.assertRaisesRegex(kind, words):
                 Delaunay(given)
+        made = Delaunay(self.fine)
         with self.assertRaisesRegex(ValueError, "xi: row 1 has nan"):
-            Delaunay(self.fine).find_simplex(nan)
+            made.find_simplex(nan)
+        hidden = np.ma.masked_array(self.fine, [[0, 0], [0, 1], [0, 0]])
+        for call in (Delaunay, made.insert, made.nearest):
+            with self.assertRaisesRegex(ValueError, "row 1 is masked"):
+                call(hidden)
+        for mask in ([False, False, True], [[False, True]]):
+            with self.assertRaises(TypeError):
+                made.remove(np.array(mask))
+        self.assertEqual((len(made.points), len(made.simplices)), (3, 1))
+
+    def test_wide_floats(self) -> None:
+        """With an exact grid what no float is is refused."""
+        points = np.array([[0, 0], [4, 1 + np.longdouble(2) ** -60], [0, 3]])
+        with self.assertRaisesRegex(Inexact, "row 1"):
+            Delaunay(points, grid="exact")
+        self.assertEqual(Delaunay(points).points[1, 1], 1.0)
 
     fine = np.array([[0, 0], [4, 0], [0, 3]])
 

@@ -2,8 +2,8 @@
 //!
 //! Coordinates are whole numbers from -2^53 to 2^53, and a triangulation is exactly Delaunay of
 //! them; a [`Grid`] makes whole numbers of floats. Where spade panics there is an error, and a call
-//! that is refused changes nothing. Of equal points there is one vertex, with the value of the last
-//! one.
+//! that is refused changes nothing, but where its text says so. Of equal points there is one vertex,
+//! with the value of the last one.
 //!
 //! ```
 //! use dcel::delaunay::{DelaunayTriangulation, Point2, PositionInTriangulation};
@@ -185,7 +185,8 @@ impl<V: HasPosition> DelaunayTriangulation<V> {
     ///
     /// # Errors
     ///
-    /// [`Refusal::NoSuchVertex`], [`Refusal::NoRoom`] and [`Refusal::OutOfMemory`].
+    /// [`Refusal::NoSuchVertex`], [`Refusal::NoRoom`] and [`Refusal::OutOfMemory`], which may leave
+    /// edges flipped.
     ///
     /// ```
     /// use dcel::Refusal;
@@ -201,8 +202,11 @@ impl<V: HasPosition> DelaunayTriangulation<V> {
     /// # Ok::<(), Refusal>(())
     /// ```
     pub fn remove(&mut self, vertex: FixedVertexHandle) -> Result<RemovalResult<V>, Refusal> {
-        let moved = self.kept.remove(vertex.number())?;
-        self.is_stale.set(true);
+        let removed = self.kept.remove(vertex.number());
+        if removed != Err(Refusal::NoSuchVertex) {
+            self.is_stale.set(true);
+        }
+        let moved = removed?;
         let key = self.keys.swap_remove(vertex.index());
         Ok(RemovalResult {
             removed_vertex: self.dcel.vertices.remove(key),

@@ -313,22 +313,38 @@ fn floats_come_back() {
             .iter()
             .flatten()
             .fold(0f64, |most, it| most.max(it.abs()));
-        assert!(most / grid.step <= 2f64.powi(53) && most / grid.step > 2f64.powi(52));
+        assert!(most / grid.step() <= 2f64.powi(53) && most / grid.step() > 2f64.powi(52));
         for point in &points {
             let back = grid.back(grid.snap(*point).unwrap());
             assert!(
                 point
                     .iter()
                     .zip(back)
-                    .all(|(one, other)| (one - other).abs() <= grid.step / 2.0)
+                    .all(|(one, other)| (one - other).abs() <= grid.step() / 2.0)
             );
             assert_eq!(grid.back(grid.snap(back).unwrap()), back);
         }
     }
-    assert_eq!(Grid::fit([]).unwrap().step, f64::from_bits(1));
-    assert_eq!(Grid::fit([[f64::MAX, 0.0]]).unwrap().step, 2f64.powi(971));
+    assert_eq!(Grid::fit([]).unwrap().step(), f64::from_bits(1));
+    assert_eq!(Grid::fit([[f64::MAX, 0.0]]).unwrap().step(), 2f64.powi(971));
     assert_eq!(Grid::fit([[0.0, f64::INFINITY]]), None);
-    let whole = Grid { step: 1.0 };
+    for power in -1074..1024 {
+        let step = 2f64.powi(power / 2) * 2f64.powi(power - power / 2);
+        assert_eq!(Grid::new(step).map(|grid| grid.step()), Some(step));
+        assert_eq!(Grid::new(-step), None);
+    }
+    for wrong in [
+        0.0,
+        0.1,
+        3.0,
+        1.5e-323,
+        f64::NAN,
+        f64::INFINITY,
+        f64::NEG_INFINITY,
+    ] {
+        assert_eq!(Grid::new(wrong), None);
+    }
+    let whole = Grid::new(1.0).unwrap();
     assert_eq!(whole.snap([0.5, 1.5]), Ok(Point2::new(0, 2)));
     assert_eq!(
         whole.snap([f64::INFINITY, 0.0]),

@@ -13,18 +13,41 @@ const MOST: f64 = (1u64 << 53) as f64;
 /// ```
 /// use dcel::delaunay::{Grid, Point2};
 ///
-/// let grid = Grid { step: 0.25 };
+/// let grid = Grid::new(0.25).unwrap();
 /// assert_eq!(grid.snap([1.5, -3.1])?, Point2::new(6, -12));
 /// assert_eq!(grid.back(Point2::new(6, -12)), [1.5, -3.0]);
 /// # Ok::<(), dcel::delaunay::InsertionError>(())
 /// ```
 #[derive(Clone, Copy, PartialEq, Debug)]
 pub struct Grid {
-    /// A power of two, in the unit of the coordinates.
-    pub step: f64,
+    step: f64,
 }
 
 impl Grid {
+    /// Makes the grid with this step, or returns `None` if it isn't a power of two.
+    ///
+    /// ```
+    /// use dcel::delaunay::Grid;
+    ///
+    /// assert_eq!(Grid::new(0.25).unwrap().step(), 0.25);
+    /// assert_eq!(Grid::new(0.1), None);
+    /// ```
+    pub fn new(step: f64) -> Option<Grid> {
+        let bits = step.to_bits();
+        let fraction = bits & ((1 << 52) - 1);
+        let is_power = match bits >> 52 {
+            0 => fraction.is_power_of_two(),
+            1..0x7ff => fraction == 0,
+            _ => false, // below 0, infinite or no number
+        };
+        is_power.then_some(Grid { step })
+    }
+
+    /// Returns the step, in the unit of the coordinates.
+    pub const fn step(&self) -> f64 {
+        self.step
+    }
+
     /// Returns the finest grid on which these points are in range, at most 2^53 steps from 0, or
     /// `None` if a coordinate is infinite or no number.
     ///
@@ -34,7 +57,7 @@ impl Grid {
     /// use dcel::delaunay::Grid;
     ///
     /// let grid = Grid::fit([[0.1, 0.2], [1.0, 0.5]]).unwrap();
-    /// assert_eq!(grid.step, 2f64.powi(-53));
+    /// assert_eq!(grid.step(), 2f64.powi(-53));
     /// assert_eq!(Grid::fit([[f64::NAN, 0.0]]), None);
     /// ```
     pub fn fit(points: impl IntoIterator<Item = [f64; 2]>) -> Option<Grid> {
@@ -62,7 +85,7 @@ impl Grid {
     /// ```
     /// use dcel::delaunay::{Grid, InsertionError};
     ///
-    /// let grid = Grid { step: 1.0 };
+    /// let grid = Grid::new(1.0).unwrap();
     /// assert_eq!(grid.snap([0.0, f64::NAN]), Err(InsertionError::NotANumber));
     /// assert_eq!(grid.snap([1e16, 0.0]), Err(InsertionError::OutOfRange));
     /// ```
@@ -82,7 +105,7 @@ impl Grid {
     /// ```
     /// use dcel::delaunay::{Grid, Point2};
     ///
-    /// assert_eq!(Grid { step: 0.5 }.back(Point2::new(3, 4)), [1.5, 2.0]);
+    /// assert_eq!(Grid::new(0.5).unwrap().back(Point2::new(3, 4)), [1.5, 2.0]);
     /// ```
     pub fn back(&self, point: Point2) -> [f64; 2] {
         [point.x, point.y].map(|it| it as f64 * self.step)
