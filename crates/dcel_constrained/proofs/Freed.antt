@@ -1,6 +1,7 @@
 -- The marked edges of a vertex freed, one after another.
-use Rattle.std.proofs.Common.{◌≡◌, ◌≢◌, ℕ, zero, suc, ◌+◌, ◌/◌, ◌<◌, List, [], ◌∷◌, ◌++◌, slice_set, Some, count_by, refl, sym, ap, ◌∙◌, subst, arith}
+use Rattle.std.proofs.Common.{◌≡◌, ℕ, zero, suc, ◌+◌, ◌<◌, List, [], ◌∷◌, ◌++◌, slice_set, Some, cond, count_by, refl, sym, subst, arith}
 use Rattle.std.specs.List.{slice_get}
+use Rattle.std.proofs.lemmas.List.Sums.{sum_by-cons}
 use Rattle.dcel_predicates.specs.declared.point.Point.{Point}
 use Rattle.dcel_maps.specs.Borders.{IsEdgeAt}
 use Rattle.dcel_maps.specs.edits.Data.{undirected_edge_updated}
@@ -13,13 +14,23 @@ use Rattle.dcel_constrained.specs.Removing.{FreesEdgesOf, IsMarkedAt}
 use Rattle.dcel_constrained.specs.Soundness.{IsConstrained, constraint_count}
 use Rattle.dcel_constrained.proofs.Marking.{constrained_less, freed_now, outlined_then, stays_marked}
 
+-- a mark counts one
+mark_counts : (marks : List Mark) → count_by is_constraint (Constraint ∷ marks) ≡ 1 + count_by is_constraint marks
+mark_counts marks = sum_by-cons (λ mark. cond (is_constraint mark) 1 0) Constraint marks
+
+freed_first : (marks : List Mark) → count_by is_constraint (slice_set (Constraint ∷ marks) 0 Free) ≡ count_by is_constraint marks
+freed_first marks = refl
+
+freed_later : (marks : List Mark) (u : ℕ) → count_by is_constraint (slice_set (Constraint ∷ marks) (suc u) Free) ≡ 1 + count_by is_constraint (slice_set marks u Free)
+freed_later marks u = mark_counts (slice_set marks u Free)
+
 -- one mark less
 one_less : (marks : List Mark) (u : ℕ) → slice_get marks u ≡ Some Constraint → count_by is_constraint (slice_set marks u Free) < count_by is_constraint marks
 one_less [] u is = absurd (cc)
 one_less (Free ∷ marks) zero is = absurd (cc)
-one_less (Constraint ∷ marks) zero is = omega arith
+one_less (Constraint ∷ marks) zero is = omega (arith, freed_first marks, mark_counts marks)
 one_less (Free ∷ marks) (suc u) is = one_less marks u is
-one_less (Constraint ∷ marks) (suc u) is = (let less = one_less marks u is in omega (arith, less))
+one_less (Constraint ∷ marks) (suc u) is = omega (arith, one_less marks u is, freed_later marks u, mark_counts marks)
 
 module _ {DE F : Type 0} where
   pub fewer_marks : (m new : Mesh Point DE Mark F) (u : ℕ) → new ≡ undirected_edge_updated m u Free → IsMarked m u → constraint_count new < constraint_count m

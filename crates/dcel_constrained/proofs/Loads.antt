@@ -1,5 +1,5 @@
 -- Segments between points made constraints, one after another.
-use Rattle.std.proofs.Common.{◌≡◌, ◌≢◌, ◌⊎◌, inl, inr, ℕ, ◌*◌, ◌+◌, ◌++◌, ◌/◌, ◌<◌, List, [], All, Contains, Option, None, Some, length, slice_get, slice_index, refl, sym, ap, ◌∙◌, subst, arith}
+use Rattle.std.proofs.Common.{◌≡◌, inl, inr, ℕ, ◌*◌, ◌+◌, ◌++◌, ◌/◌, ◌<◌, List, [], All, Contains, None, Some, length, slice_get, slice_index, refl, sym, ap, ◌∙◌, subst, arith}
 use Rattle.std.proofs.lemmas.Bool.{cases_eq}
 use Rattle.std.proofs.lemmas.Option.{get_or_from_slice_get, none-some, same_Some, slice_get-get_or, slice_get_within}
 use Rattle.dcel_predicates.specs.declared.point.Point.{Point}
@@ -8,7 +8,7 @@ use Rattle.dcel_maps.specs.Removals.{Closed}
 use Rattle.dcel_maps.specs.Shapes.{IsMesh, Mesh, end_of, origin_of}
 use Rattle.dcel_maps.proofs.Liveness.{closed-live}
 use Rattle.dcel_plane.specs.Plane.{origin_point, point_at}
-use Rattle.dcel_delaunay.specs.Bulk.{AddsVertices, AnswersEach, FailsToInsertAll, StandAt}
+use Rattle.dcel_delaunay.specs.Bulk.{AddsVertices, FailsToInsertAll, StandAt}
 use Rattle.dcel_delaunay.specs.Triangles.{point_numbered}
 use Rattle.dcel_delaunay.proofs.Outline.{all_single}
 use Rattle.dcel_planar.specs.Outcomes.{IsWholeMesh}

@@ -1,5 +1,5 @@
 -- The marked edges as a list: what is due with them is what is due without marks.
-use Rattle.std.proofs.Common.{◌≡◌, inl, inr, ℕ, ◌<◌, List, [], ◌++◌, append-nil, append_assoc, map, sym, ap, subst}
+use Rattle.std.proofs.Common.{inl, inr, ℕ, ◌<◌, List, [], ◌++◌, append-nil, append_assoc, map, sym, ap, subst}
 use Rattle.dcel_predicates.specs.declared.point.Point.{Point}
 use Rattle.dcel_maps.specs.Shapes.{Mesh}
 use Rattle.dcel_maps.specs.Words.{count_of}

@@ -1,5 +1,5 @@
 -- Marked edges between vertices, over a removal.
-use Rattle.std.proofs.Common.{◌≡◌, ◌≢◌, ◌↔◌, inl, inr, ℕ, ◌+◌, ◌-◌, ◌/◌, length, List, slice_index_or, refl, sym, ap, ◌∙◌, subst, arith}
+use Rattle.std.proofs.Common.{◌≡◌, ◌≢◌, ◌↔◌, inl, inr, ℕ, ◌+◌, ◌-◌, ◌/◌, length, List, slice_index_or, sym, ap, ◌∙◌, subst, arith}
 use Rattle.dcel_fixed.specs.HalfEdges.{rev}
 use Rattle.dcel_fixed.proofs.Halves.{rev-rev}
 use Rattle.dcel_predicates.specs.declared.point.Point.{Point}
@@ -15,7 +15,7 @@ use Rattle.dcel_delaunay.specs.Staying.{HasLooseEdges, IsLegalBut, KeepsStaying,
 use Rattle.dcel_delaunay.specs.declared.removed.Removed.{Removed}
 use Rattle.dcel_planar.specs.Growing.{Keeps}
 use Rattle.dcel_plane.specs.Plane.{origin_point, point_at}
-use Rattle.dcel_regions.specs.Marked.{IsMarked, is_constraint}
+use Rattle.dcel_regions.specs.Marked.{is_constraint}
 use Rattle.dcel_regions.specs.declared.mark.Mark.{Mark}
 use Rattle.dcel_constrained.specs.Removing.{FreesEdgesOf, HasNoConstraintAt, KeepsOtherConstraints, LosesConstraintsOf}
 use Rattle.dcel_constrained.specs.Soundness.{AreConstrained, IsConstrained}

@@ -1,5 +1,5 @@
 -- Edges that are locally Delaunay unless they are marked: no vertex in sight lies inside a circle.
-use Rattle.std.proofs.Common.{◌≡◌, ℕ, true, false, Option, Some, subst, arith}
+use Rattle.std.proofs.Common.{◌≡◌, true, false, Option, Some, subst, arith}
 use Rattle.dcel_predicates.specs.declared.point.Point.{Point}
 use Rattle.std.specs.List.{slice_get}
 use Rattle.dcel_maps.specs.Shapes.{IsMesh, Mesh}

@@ -1,4 +1,4 @@
-use Rattle.std.proofs.Common.{◌≡◌, ◌≢◌, ◌<◌, ◌∙◌, ℕ, ap, inl, refl, subst, sym, arith}
+use Rattle.std.proofs.Common.{◌≡◌, ◌≢◌, ◌<◌, ap, inl, subst, sym, arith}
 use Rattle.dcel_maps.specs.Conditions.{HasRoom}
 use Rattle.dcel_maps.specs.Shapes.{Shape, face_count}
 use Rattle.dcel_delaunay.specs.Removing.{IsInnerVertex}
@@ -35,25 +35,25 @@ remove_from_line-removed-requires-clause-vertex g c = subst (λ (s : Shape). c.a
 pub remove_from_line-removed-requires-clause-loose : goal.remove_from_line-removed-requires-clause-loose
 remove_from_line-removed-requires-clause-loose g c = loose_from c.free_edges_of.new.dcel c.args.vertex c.in-Ok.ensures.free
 
-pub returns-then-eq-clause-loses : goal.returns-then-eq-clause-loses
-returns-then-eq-clause-loses g c =
+pub returns-then-num_faces-eq1-clause-loses : goal.returns-then-num_faces-eq1-clause-loses
+returns-then-num_faces-eq1-clause-loses g c =
     freed_loses c.args.dcel.now c.free_edges_of.new.dcel c.remove_from_line-removed.new.dcel c.args.vertex c.free_edges_of.ensures.frees c.remove_from_line-removed.result
     c.remove_from_line-removed.ensures.loses
 
-pub returns-then-eq-clause-constraints : goal.returns-then-eq-clause-constraints
-returns-then-eq-clause-constraints g c =
+pub returns-then-num_faces-eq1-clause-constraints : goal.returns-then-num_faces-eq1-clause-constraints
+returns-then-num_faces-eq1-clause-constraints g c =
     let old = c.args.dcel.now in
     let mid = c.free_edges_of.new.dcel in
     let frees = c.free_edges_of.ensures.frees in
     others_left old mid c.remove_from_line-removed.new.dcel c.args.vertex frees.shape (others_freed old mid c.args.vertex frees) c.remove_from_line-removed.ensures.staying
 
-pub returns-then-eq-clause-sound : goal.returns-then-eq-clause-sound
-returns-then-eq-clause-sound g c =
+pub returns-then-num_faces-eq1-clause-sound : goal.returns-then-num_faces-eq1-clause-sound
+returns-then-num_faces-eq1-clause-sound g c =
     let new = c.remove_from_line-removed.new.dcel in
     flat_constrained new c.free_edges_of.new.due.items c.remove_from_line-removed.ensures.sound c.remove_from_line-removed.ensures.flat
 
-pub returns-then-eq-clause-hull : goal.returns-then-eq-clause-hull
-returns-then-eq-clause-hull g c = inl c.remove_from_line-removed.ensures.flat
+pub returns-then-num_faces-eq1-clause-hull : goal.returns-then-num_faces-eq1-clause-hull
+returns-then-num_faces-eq1-clause-hull g c = inl c.remove_from_line-removed.ensures.flat
 
 pub remove_from_triangles-requires-clause-sound : goal.remove_from_triangles-requires-clause-sound
 remove_from_triangles-requires-clause-sound g c = legal_of c.free_edges_of.new.dcel c.free_edges_of.new.due.items c.free_edges_of.ensures.sound

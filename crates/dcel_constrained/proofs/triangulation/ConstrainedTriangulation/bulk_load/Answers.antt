@@ -61,7 +61,7 @@ returns-in-Err-clause-fails g c =
     let given = all_given (marked_mesh c.in_ok-triangulation.triangulation) (marked_mesh t) c.args.points.now (length c.args.points.now) c.in_ok-triangulation.ensures.empty
     c.insert_all.ensures.adds in
     not_all_inserted c.in_ok-triangulation.triangulation.planar t.planar c.args.points.now c.args.segments.now c.in-Err.error c.not_inserted.result c.in-Err.ensures.fails
-    c.not_inserted.ensures (is_full t c.args.points.now c.every_mesh-in-Err.ensures given)
+    c.not_inserted.ensures (is_full t c.args.points.now c.every_mesh.ensures given)
 
 pub returns-in_err-lay_numbered-clause-fails : goal.returns-in_err-lay_numbered-clause-fails
 returns-in_err-lay_numbered-clause-fails g c =

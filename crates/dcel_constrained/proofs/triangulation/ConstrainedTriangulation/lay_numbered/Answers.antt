@@ -1,4 +1,4 @@
-use Rattle.std.proofs.Common.{◌≡◌, ◌∙◌, ℕ, Some, refl, slice_get, sym}
+use Rattle.std.proofs.Common.{◌∙◌, refl, sym}
 use Rattle.dcel_constrained.specs.Constraints.{HasConstraint, MarksOnly}
 use Rattle.dcel_constrained.specs.Constrained.{marked_mesh}
 use Rattle.dcel_constrained.proofs.Loads.{at_ends, ends_found, laid_more, laid_past, no_end, no_start, parts_more, parts_past, unlaid}

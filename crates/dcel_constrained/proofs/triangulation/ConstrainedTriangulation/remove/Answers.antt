@@ -1,11 +1,9 @@
-use Rattle.std.proofs.Common.{◌≡◌, refl, sym, ap, ◌∙◌}
-use mathlib.Core.Logic.{∥∥₁_map}
+use Rattle.std.proofs.Common.{arith}
 use Rattle.dcel_planar.proofs.Recovered.{settled_outlined}
-use Rattle.dcel_planar.proofs.Whole.{either_outside}
 use Rattle.dcel_delaunay.proofs.Lost.{lost_before}
 use Rattle.dcel_constrained.specs.Splitting.{StaysMarked}
 use Rattle.dcel_constrained.proofs.Others.{freed_then, loses_still, lost_then, none_freed, vertices_same}
-use Rattle.dcel_constrained.proofs.Settled.{sound_of, triangulated_of}
+use Rattle.dcel_constrained.proofs.Settled.{sound_of}
 use Rattle.dcel_constrained.proofs.Taken.{settled_left, settled_loses, unsettled, unsettled_left}
 use Rattle.dcel_constrained.proofs.triangulation.ConstrainedTriangulation.remove.Goals as goal
 
@@ -21,6 +19,16 @@ returns-then-index-num_vertices-clause-left g c = record { keeps = c.finish.ensu
 
 pub returns-then-lacks_room-clause-left : goal.returns-then-lacks_room-clause-left
 returns-then-lacks_room-clause-left g c = record { keeps = c.finish.ensures.keeps; only = c.finish.ensures.only; points = c.finish.ensures.points }
+
+pub returns-then-lacks_room-clause-refuses : goal.returns-then-lacks_room-clause-refuses
+returns-then-lacks_room-clause-refuses g c =
+    let lacks = c.lacks_room.ensures.0 c.if-lacks_room.true in (
+      omega (arith, c.index.ensures.value, c.num_vertices.ensures.count, c.if-index-num_vertices.false),
+      lacks.0,
+      lacks.1,
+      record { points = c.finish.ensures.points; same = c.finish.ensures.same },
+      c.in-Ok.ensures.whole,
+    )
 
 pub take_out-requires-clause-sound : goal.take_out-requires-clause-sound
 take_out-requires-clause-sound g c = sound_of c.finish.new.self
