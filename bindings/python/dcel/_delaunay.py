@@ -12,7 +12,7 @@ from typing import Any, Literal, NoReturn, Self
 from . import _declared
 from ._arrays import numpy, shaped, start_of, zeros
 from ._calls import library
-from ._errors import Unfinished
+from ._errors import Unfinished, refused
 from ._far import far_position, nearest_row
 from ._grid import (
     LEAST_POWER,
@@ -213,7 +213,10 @@ class Delaunay:
                 return array("i", [library.dcel_triangulation_num_vertices(kept) - 1])
             return array("i", [told.value])
         vertices = zeros(count)
-        library.dcel_triangulation_insert_all(kept, start_of(steps, _declared.Point), count, start_of(vertices), count, c_uint64())
+        try:
+            library.dcel_triangulation_insert_all(kept, start_of(steps, _declared.Point), count, start_of(vertices), count, c_uint64())
+        except Unfinished:  # who asked for them takes back those that are there
+            raise refused(_declared.Status.OUT_OF_MEMORY, library.dcel_triangulation_insert_all) from None
         return array("i", vertices.tobytes())
 
     def _take_back(self, first: int, before: int) -> None:

@@ -110,14 +110,14 @@ class Memory(unittest.TestCase):
         self.assertGreater(met, 5)
         for name, call in calls.items():
             with self.subTest(call=name):
-                self.assertGreater(self.sweep_delaunay(Delaunay(five), call), 0)
+                self.assertGreater(self.sweep_delaunay(Delaunay(five), call, name != "simplices"), 0)
 
-    def sweep_delaunay(self, standing: Delaunay, call: Callable[[Delaunay], object]) -> int:
-        """How often a call is refused, if it is allowed one request more each time."""
+    def sweep_delaunay(self, standing: Delaunay, call: Callable[[Delaunay], object], is_listed: bool) -> int:
+        """How often a call is refused, if it is allowed one request more each time. The triangles may be listed before, and are kept."""
         wanted = sorted(map(sorted, standing.simplices.tolist()))
         for met in range(1000):
             made = standing.copy()
-            self.assertEqual(len(made.simplices), 4)  # which is kept until a change
+            self.assertEqual(len(made.simplices) if is_listed else 4, 4)
             if not self.refused(met, lambda: call(made)):  # noqa: B023
                 return met
             self.assertEqual(made.simplices.tolist(), made.copy().simplices.tolist())
