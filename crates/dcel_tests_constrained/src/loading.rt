@@ -120,12 +120,9 @@ fn ends_of<A: Allocator>(
     edges: &[FixedUndirectedEdgeHandle],
     place: usize,
 ) -> Option<Ends> {
-    let dcel = triangulation.dcel();
     let edge = edges.get(place).copied()?;
-    if edge.index() >= dcel.num_undirected_edges() {
-        return None;
-    }
-    let [one, other] = dcel.undirected_edge(edge).vertices();
+    let edge = triangulation.dcel().get_undirected_edge(edge)?;
+    let [one, other] = edge.vertices();
     let one = one.fix().index() as u32;
     let other = other.fix().index() as u32;
     Some((one.min(other), one.max(other)))
