@@ -81,7 +81,7 @@ fn check_degrees(dcel: &Mesh, alloc: Global) -> Result<(), Fail> {
         Some(&(MANY as usize)),
         "the degree of the hub",
     )?;
-    for degree in &found[1..] {
+    for degree in found.iter().skip(1) {
         same(*degree, 3, "the degree of a vertex around it")?;
     }
     Ok(())
