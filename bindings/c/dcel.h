@@ -22,8 +22,8 @@
    DCEL_OUT_OF_MEMORY or DCEL_SHORT before all others where it takes lists. A call that takes a const
    dcel_mesh leaves it as it was.
 
-   Where a mesh isn't open nothing is done or found: a call returns DCEL_NO_MESH, DCEL_NONE, 0 or false,
-   but see lists above.
+   Where a mesh isn't open nothing is done or found: a call returns DCEL_NO_MESH, DCEL_NONE, 0 or false.
+   One that takes lists may return DCEL_OUT_OF_MEMORY or DCEL_SHORT, as above.
    What else a call can be refused for stands behind `Refusals`, without DCEL_.
 
    Half edges 2 * u and 2 * u + 1 are the halves of edge u, and go opposite ways. Face 0 is the outer
