@@ -37,3 +37,5 @@ pub mod Sight
 pub mod Freed
 pub mod Others
 pub mod Taken
+pub mod Rejoined
+pub mod Intersected

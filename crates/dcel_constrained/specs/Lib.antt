@@ -2,11 +2,13 @@ pub mod Blocking
 pub mod Channels
 pub mod Constrained
 pub mod Constraints
+pub mod Intersections
 pub mod Laying
 pub mod Loading
 pub mod Meeting
 pub mod Missing
 pub mod Reached
+pub mod Rejoining
 pub mod Removing
 pub mod Soundness
 pub mod Splitting

@@ -13,6 +13,7 @@ ghost use Rattle.dcel_maps.specs.Conditions.{IsUnconnected};
 ghost use Rattle.dcel_maps.specs.Removals.{Closed};
 ghost use Rattle.dcel_maps.specs.Shapes.{IsLive, face_count, face_of};
 ghost use Rattle.dcel_maps.specs.Triangulations.{AllTriangles};
+ghost use Rattle.dcel_planar.specs.Leaving.{IsSame};
 ghost use Rattle.dcel_planar.specs.Outcomes.{FailsToInsert, HasInserted, IsWholeMesh};
 ghost use Rattle.dcel_planar.specs.Places.{IsPlace};
 ghost use Rattle.dcel_plane.specs.Plane.{TrianglesTurnLeft, point_at};
@@ -56,6 +57,20 @@ impl<A: Allocator + Clone> ConstrainedTriangulation<A> {
         let Ok(dcel) = copy.map_undirected_edges(alloc, free) else {
             return Err(AllocError);
         };
+        let planar = PlanarMesh { dcel, due };
+        Ok(ConstrainedTriangulation { planar, crossed })
+    }
+
+    /// Clones the triangulation, in memory of `alloc`.
+    ///
+    /// The clone has the same mesh, with the same marked edges, and is whole if this one is. If memory
+    /// runs out it returns `AllocError`.
+    pub fn try_clone(&self, alloc: A) -> Result<Self, AllocError>
+        ensures { IfOk result (λ clone. IsSame self.now.planar clone.planar) }
+    {
+        let due = Vec::from_slice(alloc.clone()?, &self.planar.due)?;
+        let crossed = Vec::new(alloc.clone()?);
+        let dcel = self.planar.dcel.try_clone(alloc)?;
         let planar = PlanarMesh { dcel, due };
         Ok(ConstrainedTriangulation { planar, crossed })
     }

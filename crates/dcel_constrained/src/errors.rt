@@ -1,9 +1,10 @@
-//! Why a segment was not made a constraint, and why points and segments were not loaded.
+//! Why a segment was not made a constraint or joined, and why points and segments were not loaded.
 
 ghost use Rattle.dcel_constrained.specs.Loading.{IsInsertionFailure, IsReasonFor};
 
+use dcel_delaunay::{RemovalError, Removed};
 use dcel_planar::InsertionError;
-use spade_dcel::handles::FixedUndirectedEdgeHandle;
+use spade_dcel::handles::{FixedUndirectedEdgeHandle, FixedVertexHandle};
 use std::alloc::{AllocError, Allocator, Global};
 use thiserror::Error;
 
@@ -38,6 +39,29 @@ pub enum LoadError {
     /// There was no memory, or no number for an edge.
     #[error("out of memory")]
     OutOfMemory,
+}
+
+/// Why a vertex was not removed with the constraint through it joined, or not all was done.
+#[derive(Clone, Copy, PartialEq, Eq, Debug, Drop, Error)]
+pub enum JoinError {
+    /// The vertex was not removed; or it was, no constraint went straight through it, and edges are
+    /// left to be flipped.
+    #[error("{0}")]
+    Removal(RemovalError),
+    /// The vertex is gone, but there was no memory to join the constraint that went through it.
+    #[error("the vertex is removed, but its constraint isn't joined")]
+    NotJoined(Unjoined),
+}
+
+/// A vertex that was removed, and the segment that is to be joined where it was.
+#[derive(Clone, Copy, PartialEq, Eq, Debug, Drop)]
+pub struct Unjoined {
+    /// What was removed.
+    pub removed: Removed,
+    /// The vertex where the segment starts, by its number now.
+    pub from: FixedVertexHandle,
+    /// The vertex where it ends.
+    pub to: FixedVertexHandle,
 }
 
 impl From<AllocError> for LoadError {

@@ -9,17 +9,20 @@
 mod adding;
 mod api;
 mod bulk;
+mod crossing;
 mod errors;
 mod insert;
 mod load;
 mod locate;
 mod mesh;
+mod rejoin;
 mod remove;
 mod segments;
 mod triangulation;
 
+pub use crossing::Crossing;
 pub use dcel_regions::Mark;
-pub use errors::{ConstraintError, LoadError};
+pub use errors::{ConstraintError, JoinError, LoadError, Unjoined};
 pub use load::Segment;
 pub use mesh::ConstrainedMesh;
 pub use segments::join::{Joined, join};

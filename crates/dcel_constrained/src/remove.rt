@@ -1,23 +1,26 @@
 //! A vertex removed, with the constraints that end at it.
 
-ghost use Rattle.std.specs.Prelude.{◌≡◌, ◌↔◌, ◌<◌, IfErr, IfNone, IfOk, IfSome, IsTrue, OnErr, OnOk};
+ghost use Rattle.std.specs.Prelude.{◌≡◌, ◌↔◌, ◌<◌, ◌/◌, IfErr, IfNone, IfOk, IfSome, IsTrue, OnErr, OnOk};
 ghost use Rattle.dcel_constrained.specs.Constrained.{marked_mesh};
-ghost use Rattle.dcel_constrained.specs.Removing.{FreesEdgesOf, HasNoConstraintAt, IsMarkedAt, KeepsOtherConstraints, LeavesConstraints, LosesConstraintsOf};
+ghost use Rattle.dcel_constrained.specs.Removing.{FreesEdgesOf, HasNoConstraintAt, KeepsOtherConstraints, LeavesConstraints, LosesConstraintsOf};
 ghost use Rattle.dcel_constrained.specs.Soundness.{IsConstrained};
 ghost use Rattle.dcel_constrained.specs.Splitting.{StaysMarked};
 ghost use Rattle.dcel_delaunay.specs.Removing.{FailsToRemove, IsInnerVertex, Loses};
 ghost use Rattle.dcel_maps.specs.Conditions.{HasRoom};
-ghost use Rattle.dcel_maps.specs.Shapes.{IsMesh};
+ghost use Rattle.dcel_maps.specs.Shapes.{IsLive, IsMesh, origin_of};
+ghost use Rattle.dcel_maps.specs.Walking.{IsOutEdge};
 ghost use Rattle.dcel_planar.specs.Growing.{Keeps};
 ghost use Rattle.dcel_planar.specs.Leaving.{IsOutlined};
 ghost use Rattle.dcel_planar.specs.Outcomes.{IsWholeMesh};
+ghost use Rattle.dcel_regions.specs.Marked.{IsMarked};
 
 use crate::mesh::{ConstrainedMesh, is_marked, set_mark};
 use crate::triangulation::ConstrainedTriangulation;
 use dcel_delaunay::{Due, RemovalError, Removed, remove_from_line, remove_from_triangles};
-use dcel_planar::outside_of;
+use dcel_planar::{Point, outside_of};
 use dcel_regions::Mark;
-use spade_dcel::handles::{FixedUndirectedEdgeHandle, FixedVertexHandle};
+use spade_dcel::handles::{FixedDirectedEdgeHandle, FixedVertexHandle};
+use spade_dcel::iterators::{CCWEdgesNextBackFn, CircularIterator};
 use spade_dcel::laws::every_mesh;
 use std::alloc::{AllocError, Allocator};
 
@@ -133,7 +136,7 @@ fn take_out<A: Allocator + Clone>(
 
 /// Frees the marked edges of a vertex, and lists them.
 ///
-/// If memory runs out, some may be marked still.
+/// It goes around the vertex from one to the next. If memory runs out, some may be marked still.
 fn free_edges_of<A: Allocator>(
     dcel: &mut ConstrainedMesh<A>,
     due: &mut Due<A>,
@@ -149,28 +152,37 @@ fn free_edges_of<A: Allocator>(
     ensures mesh { IsMesh dcel.new }
 {
     every_mesh(dcel);
-    while let Some(edge) = marked_at(dcel, vertex) {
+    let Some(first) = dcel.vertex(vertex).out_edge() else {
+        return Ok(());
+    };
+    let mut half = first.fix();
+    while let Some(marked) = marked_from(dcel, half) {
+        let edge = marked.as_undirected();
         due.reserve(1)?;
         set_mark(dcel, edge, Mark::Free);
         due.push_reserved(edge);
+        half = marked;
     }
     Ok(())
 }
 
-/// Returns a marked edge of a vertex, if there is one.
-fn marked_at<A: Allocator>(
+/// Returns the first half edge around its start, from this one on, whose edge is marked, if there is
+/// one.
+fn marked_from<A: Allocator>(
     dcel: &ConstrainedMesh<A>,
-    vertex: FixedVertexHandle,
-) -> Option<FixedUndirectedEdgeHandle>
-    requires { vertex < dcel.now.shape.vertices }
-    ensures some { IfSome result (IsMarkedAt dcel.now vertex) }
-    ensures none { IfNone result (HasNoConstraintAt dcel.now vertex) }
+    half: FixedDirectedEdgeHandle,
+) -> Option<FixedDirectedEdgeHandle>
+    requires { IsLive dcel.now.shape half }
+    ensures some { IfSome result (λ h. IsOutEdge dcel.now.shape (origin_of dcel.now.shape half) h × IsMarked dcel.now (h / 2)) }
+    ensures none { IfNone result (HasNoConstraintAt dcel.now (origin_of dcel.now.shape half)) }
 {
-    let mut edges = dcel.vertex(vertex).out_edges();
+    every_mesh(dcel);
+    let mut edges: CircularIterator<'_, Point, (), Mark, (), CCWEdgesNextBackFn, A> =
+        CircularIterator::new(dcel.directed_edge(half));
     while let Some(edge) = edges.next() {
-        let edge = edge.fix().as_undirected();
-        if is_marked(dcel, edge) {
-            return Some(edge);
+        let half = edge.fix();
+        if is_marked(dcel, half.as_undirected()) {
+            return Some(half);
         }
     }
     None

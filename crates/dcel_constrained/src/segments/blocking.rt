@@ -55,7 +55,7 @@ fn note_blocking<A: Allocator, L: Allocator>(
 }
 
 /// Returns whether an edge is marked, and the segment between two vertices crosses it.
-fn blocks<A: Allocator>(
+pub(crate) fn blocks<A: Allocator>(
     dcel: &ConstrainedMesh<A>,
     from: FixedVertexHandle,
     to: FixedVertexHandle,
@@ -77,7 +77,7 @@ fn blocks<A: Allocator>(
 }
 
 /// Returns whether a half edge crosses the segment between two vertices from right to left.
-fn crosses<A: Allocator>(
+pub(crate) fn crosses<A: Allocator>(
     dcel: &ConstrainedMesh<A>,
     from: FixedVertexHandle,
     to: FixedVertexHandle,

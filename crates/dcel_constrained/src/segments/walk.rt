@@ -126,7 +126,7 @@ fn opens<DE, UE, F, A: Allocator>(
 
 /// Returns a number that is negative if a point on the line through two others is between them, 0
 /// if it is one of them, and positive outside.
-fn apart(a: Point, b: Point, p: Point) -> i128
+pub(crate) fn apart(a: Point, b: Point, p: Point) -> i128
     ensures { result ≡ dot a b p }
 {
     let x = (a.x - p.x) as i128 * (b.x - p.x) as i128;
