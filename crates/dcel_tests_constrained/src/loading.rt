@@ -366,3 +366,35 @@ fn a_thousand_points_are_loaded(rt: HostRuntime) -> Result<(), Fail> {
         "the last one crosses",
     )
 }
+
+/// Clones the triangulation, and returns how many edges are marked in the clone.
+fn marked_in_clone<'a>(
+    triangulation: &Watched<'a>,
+    memory: Memory<'a>,
+) -> Result<usize, AllocError> {
+    Ok(triangulation.try_clone(memory)?.num_constraints())
+}
+
+/// Clones a kite with a marked diagonal, with each request refused in turn.
+fn refuse_clones<'a>(triangulation: &mut Watched<'a>, memory: Memory<'a>) -> Result<(), Fail> {
+    add_each(triangulation, &[(0, 1)])?;
+    for number in 0..MANY {
+        memory.refuse(Refusals::One(number));
+        let found = marked_in_clone(triangulation, memory);
+        let came = memory.requests() > number;
+        memory.refuse(Refusals::None);
+        same(found.is_err(), came, format_args!("request {number}"))?;
+        if !came {
+            same(found.unwrap_or(0), 1, "marked edges")?;
+            return holds(number > 3, "requests were refused");
+        }
+    }
+    Err(Fail::new("more requests than MANY"))
+}
+
+#[test]
+fn clones_are_refused_memory(rt: HostRuntime) -> Result<(), Fail> {
+    let memory = Refusing::new(rt.alloc());
+    let mut triangulation = constrained(&KITE, &memory)?;
+    refuse_clones(&mut triangulation, &memory)
+}

@@ -141,7 +141,7 @@ const ROWS: [Row; 10] = [
 const MANY: u64 = 200;
 
 /// The numbers of vertices, edges, inner faces and marked edges.
-fn counts<A: Allocator>(triangulation: &ConstrainedTriangulation<A>) -> [usize; 4] {
+pub fn counts<A: Allocator>(triangulation: &ConstrainedTriangulation<A>) -> [usize; 4] {
     let dcel = triangulation.dcel();
     [
         dcel.num_vertices(),

@@ -20,7 +20,7 @@ from reference.sources import TYPE, Item, closing, end_of_generics
 
 PAGE = "docs/CALLS.md"
 CRATES = {
-    *("spade_dcel", "dcel_exchange", "dcel_convenience", "dcel_regions", "dcel_legalize", "dcel_planar", "dcel_delaunay", "dcel_constrained"),
+    *("spade_dcel", "dcel_exchange", "dcel_convenience", "dcel_regions", "dcel_legalize", "dcel_planar", "dcel_delaunay", "dcel_constrained", "dcel_refinement"),
     *("dcel_svg", "dcel_commands"),
 }
 STEPPED_OVER = {"handles", "iterators"}

@@ -1,0 +1,3 @@
+mod Dots
+mod Growth
+mod Judged

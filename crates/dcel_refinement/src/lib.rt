@@ -1,0 +1,21 @@
+//! Refinement of constrained Delaunay triangulations: vertices are added until no angle is smaller
+//! and no triangle larger than asked (J. Ruppert, "A Delaunay refinement algorithm for quality
+//! 2-dimensional mesh generation", 1995).
+//!
+//! Start with [`refine`]. It uses only the public calls of `dcel_constrained`. How points are chosen
+//! is not proved: the result is tested in the end, exactly, and that test is.
+#![tactic(auto)]
+
+mod centers;
+mod due;
+mod judging;
+mod parameters;
+mod points;
+mod quality;
+mod refining;
+mod segments;
+mod vectors;
+mod ways;
+
+pub use parameters::{AngleLimit, RefinedFaces, RefinementParameters};
+pub use refining::{Refined, refine};
