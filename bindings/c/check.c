@@ -641,6 +641,196 @@ static void check_clone(void) {
     dcel_triangulation_free(&to);
 }
 
+/* One with constraints that isn't open answers all calls, and is given nothing. */
+static void check_no_constrained(void) {
+    dcel_constrained none = DCEL_CONSTRAINED_INIT, other = DCEL_CONSTRAINED_INIT;
+    dcel_triangulation no_triangulation = DCEL_TRIANGULATION_INIT;
+    const dcel_ends segment = {0, 1};
+    dcel_point point = {1, 2};
+    dcel_position position = {77, 77};
+    uint32_t vertex = 77;
+    uint64_t number = 77;
+    bool answer = true;
+    dcel_constrained_free(&none);
+    CHECK(dcel_constrained_num_vertices(&none) == 0 && dcel_constrained_num_edges(&none) == 0);
+    CHECK(dcel_constrained_num_triangles(&none) == 0 && dcel_constrained_num_constraints(&none) == 0);
+    CHECK(!dcel_constrained_is_whole(&none) && dcel_constrained_finish(&none) == DCEL_NO_MESH);
+    CHECK(dcel_constrained_insert(&none, point, &vertex) == DCEL_NO_MESH && vertex == 77);
+    CHECK(dcel_constrained_insert_all(&none, &point, 1, &vertex, 1, &number) == DCEL_NO_MESH && vertex == 77 && number == 77);
+    CHECK(dcel_constrained_remove(&none, 0, &number) == DCEL_NO_MESH && number == 77);
+    CHECK(dcel_constrained_locate(&none, point, &position) == DCEL_NO_MESH && position.kind == 77);
+    CHECK(dcel_constrained_can_add_constraint(&none, 0, 0, &answer) == DCEL_NO_MESH && answer);
+    CHECK(dcel_constrained_add_constraint(&none, 0, 1, &answer) == DCEL_NO_MESH && answer);
+    CHECK(dcel_constrained_add_constraints(&none, &segment, 1, &number) == DCEL_NO_MESH && number == 0);
+    CHECK(dcel_constrained_remove_constraint(&none, 0, &answer) == DCEL_NO_MESH && answer);
+    CHECK(!dcel_constrained_is_constraint(&none, 0) && !dcel_constrained_exists_constraint(&none, 0, 1));
+    CHECK(dcel_constrained_new(&other) == DCEL_DONE && dcel_constrained_is_whole(&other));
+    CHECK(dcel_constrained_clone(&none, &other) == DCEL_NO_MESH && dcel_constrained_is_whole(&other));
+    CHECK(dcel_constrained_from_triangulation(&no_triangulation, &other) == DCEL_NO_MESH && dcel_constrained_is_whole(&other));
+    dcel_constrained_free(&other);
+}
+
+/* Nor has it lists. */
+static void check_nothing_listed(void) {
+    dcel_constrained none = DCEL_CONSTRAINED_INIT;
+    dcel_point point = {77, 77};
+    dcel_triangle triangle = {77, 77, 77};
+    dcel_across across = {77, 77, 77};
+    dcel_ends ends = {77, 77};
+    dcel_half_edge half = {77, 77, 77, 77};
+    uint32_t number = 77;
+    uint64_t needed[8] = {77, 77, 77, 77, 77, 77, 77, 77};
+    CHECK(dcel_constrained_points(&none, &point, 1, &needed[0]) == DCEL_NO_MESH && point.x == 77);
+    CHECK(dcel_constrained_triangles(&none, &triangle, 1, &needed[1]) == DCEL_NO_MESH && triangle.first == 77);
+    CHECK(dcel_constrained_neighbors(&none, &across, 1, &needed[2]) == DCEL_NO_MESH && across.first == 77);
+    CHECK(dcel_constrained_edges(&none, &ends, 1, &needed[3]) == DCEL_NO_MESH && ends.from == 77);
+    CHECK(dcel_constrained_hull(&none, &number, 1, &needed[4]) == DCEL_NO_MESH && number == 77);
+    CHECK(dcel_constrained_directed_edges(&none, &half, 1, &needed[5]) == DCEL_NO_MESH && half.next == 77);
+    CHECK(dcel_constrained_constraints(&none, &ends, 1, &needed[6]) == DCEL_NO_MESH && ends.from == 77);
+    CHECK(dcel_constrained_regions(&none, &number, 1, &needed[7]) == DCEL_NO_MESH && number == 77);
+    for (int i = 0; i < 8; i++)
+        CHECK(needed[i] == 0);
+}
+
+/* A square with a point inside, and its corner again. */
+static const dcel_point SQUARE[6] = {{0, 0}, {10, 0}, {10, 10}, {0, 10}, {5, 6}, {10, 10}};
+static const dcel_ends SIDES[4] = {{0, 1}, {1, 2}, {2, 3}, {3, 0}};
+
+/* Points and segments come in together, or nothing changes. */
+static void check_loading(void) {
+    dcel_constrained made = DCEL_CONSTRAINED_INIT;
+    const dcel_ends crossing[3] = {{0, 1}, {0, 2}, {3, 1}}, nowhere[2] = {{0, 2}, {1, 6}};
+    uint32_t vertices[7] = {77, 77, 77, 77, 77, 77, 77};
+    uint64_t row = 77;
+    CHECK(dcel_constrained_bulk_load(&made, SQUARE, 6, SIDES, 4, vertices, 5, &row) == DCEL_SHORT && row == 77);
+    CHECK(dcel_constrained_bulk_load(&made, FAR, 3, SIDES, 4, vertices, 7, &row) == DCEL_OUT_OF_RANGE && row == 1);
+    CHECK(dcel_constrained_bulk_load(&made, SQUARE, 6, crossing, 3, vertices, 7, &row) == DCEL_CROSSES && row == 2);
+    row = 77;
+    CHECK(dcel_constrained_bulk_load(&made, SQUARE, 6, nowhere, 2, vertices, 7, &row) == DCEL_NO_SUCH_VERTEX && row == 1);
+    row = 77;
+    CHECK(!made.is_open && vertices[0] == 77);
+    CHECK(dcel_constrained_bulk_load(&made, SQUARE, 6, SIDES, 4, vertices, 7, &row) == DCEL_DONE && row == 77);
+    CHECK(vertices[2] == vertices[5] && vertices[6] == 77 && dcel_constrained_is_whole(&made));
+    CHECK(dcel_constrained_num_vertices(&made) == 5 && dcel_constrained_num_constraints(&made) == 4);
+    CHECK(dcel_constrained_exists_constraint(&made, vertices[3], vertices[2]) && !dcel_constrained_exists_constraint(&made, vertices[0], vertices[4]));
+    CHECK(dcel_constrained_bulk_load(&made, SQUARE, 6, crossing, 3, vertices, 7, &row) == DCEL_CROSSES);
+    CHECK(dcel_constrained_num_constraints(&made) == 4);
+    CHECK(strcmp(dcel_status_name(DCEL_CROSSES), "Crosses") == 0);
+    dcel_constrained_free(&made);
+    CHECK(!dcel_constrained_is_whole(&made));
+}
+
+/* The number of the edge between two vertices. */
+static uint32_t edge_between(const dcel_constrained *made, uint32_t from, uint32_t to) {
+    dcel_ends edges[16];
+    uint64_t count;
+    CHECK(dcel_constrained_edges(made, edges, 16, &count) == DCEL_DONE);
+    for (uint32_t u = 0; u < count; u++)
+        if ((edges[u].from == from && edges[u].to == to) || (edges[u].from == to && edges[u].to == from))
+            return u;
+    return UINT32_MAX;
+}
+
+/* Segments become constraints, unless one is in the way, and are freed again. */
+static void check_constraints(void) {
+    dcel_constrained made = DCEL_CONSTRAINED_INIT;
+    dcel_ends segments[5];
+    uint32_t v[6], vertex = 77;
+    uint64_t row = 77, done = 77, moved = 77;
+    bool answer = false, added = false, was = true;
+    CHECK(dcel_constrained_new(&made) == DCEL_DONE && dcel_constrained_insert_all(&made, SQUARE, 6, v, 6, &row) == DCEL_DONE);
+    CHECK(row == 77 && v[2] == v[5] && dcel_constrained_num_triangles(&made) == 4);
+    CHECK(dcel_constrained_can_add_constraint(&made, v[0], v[2], &answer) == DCEL_DONE && answer);
+    CHECK(dcel_constrained_add_constraint(&made, v[0], v[2], &added) == DCEL_DONE && added);
+    CHECK(dcel_constrained_add_constraint(&made, v[2], v[0], &added) == DCEL_DONE && !added);
+    CHECK(dcel_constrained_can_add_constraint(&made, v[1], v[3], &answer) == DCEL_DONE && !answer);
+    CHECK(dcel_constrained_can_add_constraint(&made, v[1], 9, &answer) == DCEL_DONE && !answer);
+    CHECK(dcel_constrained_add_constraint(&made, v[1], v[3], &added) == DCEL_CROSSES && !added);
+    CHECK(dcel_constrained_add_constraint(&made, v[1], 9, &added) == DCEL_NO_SUCH_VERTEX && !added);
+    CHECK(dcel_constrained_exists_constraint(&made, v[0], v[2]) && !dcel_constrained_exists_constraint(&made, v[1], v[3]));
+    for (int i = 0; i < 4; i++) {
+        segments[i].from = v[SIDES[i].from];
+        segments[i].to = v[SIDES[i].to];
+    }
+    segments[4].from = v[3];
+    segments[4].to = v[1];
+    CHECK(dcel_constrained_add_constraints(&made, segments, 5, &done) == DCEL_CROSSES && done == 4);
+    CHECK(dcel_constrained_add_constraints(&made, segments, 4, &done) == DCEL_DONE && done == 4);
+    CHECK(dcel_constrained_add_constraints(&made, segments, 0, &done) == DCEL_DONE && done == 0);
+    CHECK(dcel_constrained_num_constraints(&made) == 5);
+    uint32_t diagonal = edge_between(&made, v[0], v[2]);
+    CHECK(dcel_constrained_is_constraint(&made, diagonal) && !dcel_constrained_is_constraint(&made, UINT32_MAX));
+    CHECK(dcel_constrained_remove_constraint(&made, UINT32_MAX, &was) == DCEL_DONE && !was);
+    CHECK(dcel_constrained_remove_constraint(&made, diagonal, &was) == DCEL_DONE && was);
+    CHECK(dcel_constrained_remove_constraint(&made, diagonal, &was) == DCEL_DONE && !was);
+    CHECK(dcel_constrained_num_constraints(&made) == 4 && edge_between(&made, v[0], v[2]) == UINT32_MAX);
+    /* A point on a side makes two of it, and a corner takes two away. */
+    const dcel_point on_side = {4, 0};
+    CHECK(dcel_constrained_insert(&made, on_side, &vertex) == DCEL_DONE && vertex == 5);
+    CHECK(dcel_constrained_insert(&made, FAR[1], &vertex) == DCEL_OUT_OF_RANGE && vertex == 5);
+    CHECK(dcel_constrained_num_constraints(&made) == 5 && dcel_constrained_exists_constraint(&made, v[0], 5));
+    CHECK(dcel_constrained_remove(&made, 6, &moved) == DCEL_NO_SUCH_VERTEX && moved == 77);
+    CHECK(dcel_constrained_remove(&made, v[2], &moved) == DCEL_DONE && moved == 5);
+    CHECK(dcel_constrained_num_constraints(&made) == 3 && dcel_constrained_finish(&made) == DCEL_DONE);
+    CHECK(dcel_constrained_insert_all(&made, FAR, 3, v, 2, &row) == DCEL_SHORT && row == 77);
+    CHECK(dcel_constrained_insert_all(&made, FAR, 3, v, 6, &row) == DCEL_OUT_OF_RANGE && row == 1);
+    dcel_constrained_free(&made);
+}
+
+/* Lists go into a buffer whole, or it stays; points are where they are. */
+static void check_constrained_lists(void) {
+    dcel_constrained made = DCEL_CONSTRAINED_INIT;
+    dcel_point points[6] = {{77, 77}, {77, 77}, {77, 77}, {77, 77}, {77, 77}, {77, 77}};
+    dcel_triangle triangles[5] = {{77, 77, 77}, {77, 77, 77}, {77, 77, 77}, {77, 77, 77}, {77, 77, 77}};
+    dcel_across across[5] = {{77, 77, 77}, {77, 77, 77}, {77, 77, 77}, {77, 77, 77}, {77, 77, 77}};
+    dcel_ends edges[9], constraints[5] = {{77, 77}, {77, 77}, {77, 77}, {77, 77}, {77, 77}};
+    dcel_half_edge halves[17];
+    dcel_position position = {77, 77};
+    uint32_t v[6], hull[5] = {77, 77, 77, 77, 77}, depths[5] = {77, 77, 77, 77, 77};
+    uint64_t row, needed = 77;
+    memset(halves, 77, sizeof halves);
+    memset(edges, 77, sizeof edges);
+    CHECK(dcel_constrained_bulk_load(&made, SQUARE, 6, SIDES, 4, v, 6, &row) == DCEL_DONE);
+    CHECK(dcel_constrained_points(&made, points, 4, &needed) == DCEL_SHORT && needed == 5 && points[0].x == 77);
+    CHECK(dcel_constrained_triangles(&made, triangles, 3, &needed) == DCEL_SHORT && needed == 4 && triangles[0].first == 77);
+    CHECK(dcel_constrained_neighbors(&made, across, 3, &needed) == DCEL_SHORT && needed == 4 && across[0].first == 77);
+    CHECK(dcel_constrained_edges(&made, edges, 7, &needed) == DCEL_SHORT && needed == 8 && edges[0].from == edges[8].from);
+    CHECK(dcel_constrained_hull(&made, hull, 3, &needed) == DCEL_SHORT && needed == 4 && hull[0] == 77);
+    CHECK(dcel_constrained_directed_edges(&made, halves, 15, &needed) == DCEL_SHORT && needed == 16 && halves[0].next == halves[16].next);
+    CHECK(dcel_constrained_constraints(&made, constraints, 3, &needed) == DCEL_SHORT && needed == 4 && constraints[0].from == 77);
+    CHECK(dcel_constrained_regions(&made, depths, 3, &needed) == DCEL_SHORT && needed == 4 && depths[0] == 77);
+    CHECK(dcel_constrained_points(&made, points, 6, &needed) == DCEL_DONE && points[v[4]].y == 6 && points[5].x == 77);
+    CHECK(dcel_constrained_triangles(&made, triangles, 5, &needed) == DCEL_DONE && triangles[3].first < 5 && triangles[4].first == 77);
+    CHECK(dcel_constrained_neighbors(&made, across, 5, &needed) == DCEL_DONE && across[4].first == 77);
+    CHECK(dcel_constrained_edges(&made, edges, 9, &needed) == DCEL_DONE && edges[7].from < 5);
+    CHECK(dcel_constrained_hull(&made, hull, 5, &needed) == DCEL_DONE && hull[3] < 5 && hull[4] == 77);
+    CHECK(dcel_constrained_directed_edges(&made, halves, 17, &needed) == DCEL_DONE && halves[15].next < 16);
+    CHECK(dcel_constrained_constraints(&made, constraints, 5, &needed) == DCEL_DONE && constraints[3].from < 5 && constraints[4].from == 77);
+    CHECK(dcel_constrained_regions(&made, depths, 5, &needed) == DCEL_DONE && depths[0] == 1 && depths[3] == 1 && depths[4] == 77);
+    CHECK(dcel_constrained_locate(&made, FAR[1], &position) == DCEL_OUT_OF_RANGE && position.kind == 77);
+    CHECK(dcel_constrained_locate(&made, SQUARE[4], &position) == DCEL_DONE && position.kind == DCEL_ON_VERTEX && position.number == v[4]);
+    CHECK(dcel_constrained_num_edges(&made) == 8);
+    dcel_constrained_free(&made);
+}
+
+/* A copy has memory of its own. */
+static void check_copies(void) {
+    dcel_triangulation from = DCEL_TRIANGULATION_INIT;
+    dcel_constrained made = DCEL_CONSTRAINED_INIT, copy = DCEL_CONSTRAINED_INIT;
+    uint32_t v[6];
+    uint64_t row;
+    bool added;
+    CHECK(dcel_triangulation_new(&from) == DCEL_DONE && dcel_triangulation_insert_all(&from, SQUARE, 6, v, 6, &row) == DCEL_DONE);
+    CHECK(dcel_constrained_from_triangulation(&from, &made) == DCEL_DONE && dcel_constrained_num_constraints(&made) == 0);
+    dcel_triangulation_free(&from);
+    CHECK(dcel_constrained_num_triangles(&made) == 4 && dcel_constrained_add_constraint(&made, v[1], v[3], &added) == DCEL_DONE);
+    CHECK(dcel_constrained_clone(&made, &copy) == DCEL_DONE && dcel_constrained_exists_constraint(&copy, v[3], v[1]));
+    CHECK(dcel_constrained_add_constraint(&made, v[0], v[1], &added) == DCEL_DONE && dcel_constrained_num_constraints(&copy) == 1);
+    dcel_constrained_free(&made);
+    CHECK(dcel_constrained_num_vertices(&copy) == 5 && dcel_constrained_is_whole(&copy));
+    dcel_constrained_free(&copy);
+}
+
 int main(void) {
     check_version();
     check_none();
@@ -668,6 +858,12 @@ int main(void) {
     check_lists();
     check_places();
     check_clone();
+    check_no_constrained();
+    check_nothing_listed();
+    check_loading();
+    check_constraints();
+    check_constrained_lists();
+    check_copies();
     printf("%d checks passed\n", checks);
     return EXIT_SUCCESS;
 }

@@ -1,7 +1,7 @@
 /* A half-edge mesh on the sphere, and a Delaunay triangulation of points, that are kept across calls. A
    mesh's links and numbers change only by the calls below, and each number of an element is below 2^32.
-   Triangulations are at the end. What is said of a dcel_mesh here holds of a dcel_triangulation too, unless
-   its calls say what else they change.
+   Triangulations are at the end. What is said of a dcel_mesh here holds of a dcel_triangulation and a
+   dcel_constrained too, unless their calls say what else they change.
 
    Link libdcel, which allocates by your malloc.
 
@@ -91,7 +91,8 @@ typedef enum {
     DCEL_SHORT = 22,   /* a buffer has too few places */
     DCEL_FAULTY = 23,  /* no mesh is made of what is given, and a dcel_fault says why */
     DCEL_OUT_OF_RANGE = 24, /* a coordinate is below -2^53 or above 2^53 */
-    DCEL_UNFINISHED = 25    /* the triangulation isn't whole, as there was no memory to make it so */
+    DCEL_UNFINISHED = 25,   /* the triangulation isn't whole, as there was no memory to make it so */
+    DCEL_CROSSES = 26       /* a segment would cross a constraint */
 } dcel_status;
 
 /* Returns the name of a status, as "NoSuchVertex", or "" if it is none. */
@@ -123,6 +124,7 @@ static inline const char *dcel_status_name(uint32_t status) {
     case DCEL_FAULTY: return "Faulty";
     case DCEL_OUT_OF_RANGE: return "OutOfRange";
     case DCEL_UNFINISHED: return "Unfinished";
+    case DCEL_CROSSES: return "Crosses";
     default: return "";
     }
 }
@@ -536,8 +538,8 @@ typedef struct {
 } dcel_triangle;
 
 /* Puts the triangles of the points into the buffer, as walks do, each by the rows of its corners; of equal
-   points the first one counts. There are fewer than two for each point. If a coordinate is out of range,
-   the point's row is told. Nothing is kept.
+   points the first one counts. There are fewer than two for each point. If coordinates are out of range,
+   the first row that has one is told. Nothing is kept.
    Refusals: OUT_OF_RANGE, OUT_OF_MEMORY, SHORT. */
 dcel_status dcel_triangulate(const dcel_point *points, size_t points_len, dcel_triangle *triangles,
                              size_t triangles_len, uint64_t *needed, uint64_t *row);
@@ -591,8 +593,9 @@ dcel_status dcel_triangulation_insert_with_hint(dcel_triangulation *triangulatio
                                                 uint32_t hint, uint32_t *vertex);
 
 /* Inserts points in an order of its own, which is fast, and puts the vertex of each into the buffer, in
-   the order of the points. If a coordinate is out of range, the point's row is told, and none is inserted.
-   If memory or numbers run out, the points that were inserted so far stay, and the buffer too.
+   the order of the points. If coordinates are out of range, the first row that has one is told, and none
+   is inserted. If memory or numbers run out, the points that were inserted so far stay, and the buffer
+   too.
    Refusals: OUT_OF_RANGE, NO_ROOM, OUT_OF_MEMORY, SHORT, UNFINISHED. */
 dcel_status dcel_triangulation_insert_all(dcel_triangulation *triangulation, const dcel_point *points,
                                           size_t points_len, uint32_t *vertices, size_t vertices_len,
@@ -709,6 +712,150 @@ dcel_status dcel_triangulation_nearest(const dcel_triangulation *triangulation, 
 dcel_status dcel_triangulation_nearest_all(const dcel_triangulation *triangulation, const dcel_point *points,
                                            size_t points_len, uint32_t *vertices, size_t vertices_len,
                                            uint64_t *row);
+
+/* ---- Triangulations with constraints, kept across calls ----
+
+   Some edges are constraints, and stay. The triangulation is Delaunay but for them: no vertex that a
+   triangle sees, past no constraint, lies inside its circle. What is said of a dcel_triangulation above, of
+   its numbers and of its lists, holds of a dcel_constrained too, and a call does what that of the same name
+   does there, unless it says otherwise. A call that is refused with DCEL_CROSSES makes it whole, too. */
+
+/* A triangulation with constraints, or none: zero bytes are one that isn't open. The fields are the
+   library's. */
+typedef struct {
+    void *at;
+    bool is_open;
+} dcel_constrained;
+
+/* What a dcel_constrained begins with. */
+#define DCEL_CONSTRAINED_INIT {NULL, false}
+
+/* Makes a triangulation of no points. One that was kept there before is freed.
+   Refusals: OUT_OF_MEMORY. */
+dcel_status dcel_constrained_new(dcel_constrained *triangulation);
+
+/* Frees the triangulation, if there is one. */
+void dcel_constrained_free(dcel_constrained *triangulation);
+
+/* Makes `to` a triangulation of its own, with the same numbers and constraints, and frees the one that was
+   there. It is whole if `from` is.
+   Refusals: OUT_OF_MEMORY. */
+dcel_status dcel_constrained_clone(const dcel_constrained *from, dcel_constrained *to);
+
+/* Makes `to` a triangulation of its own, with the numbers of `from` and no constraint, and frees the one
+   that was there.
+   Refusals: OUT_OF_MEMORY, UNFINISHED if `from` isn't whole. */
+dcel_status dcel_constrained_from_triangulation(const dcel_triangulation *from, dcel_constrained *to);
+
+/* Makes a triangulation of points and of segments between them, by the rows of their ends: each segment is
+   one of constraints, and no other edge is one. The vertex of each point is put into the buffer, in the
+   order of the points. Segments may meet at their ends, end on others, or overlap. One that was kept there
+   before is freed.
+   `row` tells the first row of a point that is out of range, or the row of a segment: one that ends at no
+   point has the status DCEL_NO_SUCH_VERTEX, and one that crosses an earlier one DCEL_CROSSES. With any
+   refusal what was kept before stays.
+   Refusals: OUT_OF_RANGE, NO_SUCH_VERTEX, CROSSES, NO_ROOM, OUT_OF_MEMORY, SHORT if the buffer has fewer
+   places than there are points. */
+dcel_status dcel_constrained_bulk_load(dcel_constrained *triangulation, const dcel_point *points,
+                                       size_t points_len, const dcel_ends *segments, size_t segments_len,
+                                       uint32_t *vertices, size_t vertices_len, uint64_t *row);
+
+uint64_t dcel_constrained_num_vertices(const dcel_constrained *triangulation);
+uint64_t dcel_constrained_num_edges(const dcel_constrained *triangulation);
+uint64_t dcel_constrained_num_triangles(const dcel_constrained *triangulation);
+
+/* How many edges are constraints. It looks at each edge. */
+uint64_t dcel_constrained_num_constraints(const dcel_constrained *triangulation);
+
+/* There is a triangulation, and it is whole. */
+bool dcel_constrained_is_whole(const dcel_constrained *triangulation);
+
+/* Makes the triangulation whole. If memory runs out again, what is done so far stays. Constraints stay.
+   Refusals: OUT_OF_MEMORY. */
+dcel_status dcel_constrained_finish(dcel_constrained *triangulation);
+
+/* Inserts a point, and tells its vertex. A constraint that the point is on becomes two.
+   Refusals: OUT_OF_RANGE, NO_ROOM, OUT_OF_MEMORY, UNFINISHED. */
+dcel_status dcel_constrained_insert(dcel_constrained *triangulation, dcel_point point, uint32_t *vertex);
+
+/* Inserts points, and puts the vertex of each into the buffer, in the order of the points.
+   Refusals: OUT_OF_RANGE, NO_ROOM, OUT_OF_MEMORY, SHORT, UNFINISHED. */
+dcel_status dcel_constrained_insert_all(dcel_constrained *triangulation, const dcel_point *points,
+                                        size_t points_len, uint32_t *vertices, size_t vertices_len,
+                                        uint64_t *row);
+
+/* Removes a vertex with its point, and with the constraints that end at it; all others stay. With
+   DCEL_OUT_OF_MEMORY the vertex stays, but constraints that end at it may be none any more.
+   Refusals: NO_SUCH_VERTEX, NO_ROOM, OUT_OF_MEMORY, UNFINISHED. */
+dcel_status dcel_constrained_remove(dcel_constrained *triangulation, uint32_t vertex, uint64_t *moved);
+
+/* Tells where a point is. The walk begins at the newest edge.
+   Refusals: OUT_OF_RANGE, UNFINISHED. */
+dcel_status dcel_constrained_locate(const dcel_constrained *triangulation, dcel_point point,
+                                    dcel_position *position);
+
+/* Tells whether the segment between two vertices crosses no constraint. One that ends on it, or is on it,
+   doesn't cross it. The answer is false if there is no such vertex.
+   Refusals: UNFINISHED. */
+dcel_status dcel_constrained_can_add_constraint(const dcel_constrained *triangulation, uint32_t from,
+                                                uint32_t to, bool *answer);
+
+/* Makes the segment between two vertices one of constraints, from each vertex on it to the next. `added`
+   tells whether an edge is a constraint now that wasn't. With any refusal `added` stays, and with any but
+   DCEL_OUT_OF_MEMORY no edge is a constraint that wasn't; with that parts of the segment may be, and the
+   same call adds the rest.
+   Refusals: NO_SUCH_VERTEX, CROSSES, OUT_OF_MEMORY. */
+dcel_status dcel_constrained_add_constraint(dcel_constrained *triangulation, uint32_t from, uint32_t to,
+                                            bool *added);
+
+/* The same for each segment of a list, by the vertices at its ends, up to the first that is refused. `done`
+   tells how many are constraints then, from the front: the refused one has this row.
+   Refusals: NO_SUCH_VERTEX, CROSSES, OUT_OF_MEMORY. */
+dcel_status dcel_constrained_add_constraints(dcel_constrained *triangulation, const dcel_ends *segments,
+                                             size_t segments_len, uint64_t *done);
+
+/* Makes an edge no constraint any more, and flips edges so that the triangulation is Delaunay but for those
+   that still are. `was` tells whether it was one; any number may be given. With DCEL_OUT_OF_MEMORY `was`
+   stays, and either the edge is a constraint as before, and nothing has changed, or it is none any more.
+   Refusals: OUT_OF_MEMORY. */
+dcel_status dcel_constrained_remove_constraint(dcel_constrained *triangulation, uint32_t edge, bool *was);
+
+/* The edge is a constraint. */
+bool dcel_constrained_is_constraint(const dcel_constrained *triangulation, uint32_t edge);
+
+/* An edge between the vertices is a constraint. */
+bool dcel_constrained_exists_constraint(const dcel_constrained *triangulation, uint32_t from, uint32_t to);
+
+/* Lists, into a buffer, as those of a dcel_triangulation: points, corners of triangles, neighbors, ends of
+   edges, vertices of the hull and links of half edges.
+   Refusals: OUT_OF_MEMORY, SHORT. */
+dcel_status dcel_constrained_points(const dcel_constrained *triangulation, dcel_point *points,
+                                    size_t points_len, uint64_t *needed);
+dcel_status dcel_constrained_triangles(const dcel_constrained *triangulation, dcel_triangle *triangles,
+                                       size_t triangles_len, uint64_t *needed);
+dcel_status dcel_constrained_neighbors(const dcel_constrained *triangulation, dcel_across *across,
+                                       size_t across_len, uint64_t *needed);
+dcel_status dcel_constrained_edges(const dcel_constrained *triangulation, dcel_ends *edges, size_t edges_len,
+                                   uint64_t *needed);
+dcel_status dcel_constrained_hull(const dcel_constrained *triangulation, uint32_t *vertices,
+                                  size_t vertices_len, uint64_t *needed);
+dcel_status dcel_constrained_directed_edges(const dcel_constrained *triangulation,
+                                            dcel_half_edge *half_edges, size_t half_edges_len,
+                                            uint64_t *needed);
+
+/* The ends of each edge that is a constraint, in the order of the edges. There are
+   dcel_constrained_num_constraints of them.
+   Refusals: OUT_OF_MEMORY, SHORT. */
+dcel_status dcel_constrained_constraints(const dcel_constrained *triangulation, dcel_ends *constraints,
+                                         size_t constraints_len, uint64_t *needed);
+
+/* How deep each triangle is: the least number of constraints that a way to it from outside of the hull
+   crosses, UINT32_MAX if it is more. Where constraints are the borders of polygons and of their holes, no
+   two of which have an edge in common, it is 1 in a polygon and 2 in a hole of it. The triangles are in the
+   order of dcel_constrained_triangles.
+   Refusals: OUT_OF_MEMORY, SHORT. */
+dcel_status dcel_constrained_regions(const dcel_constrained *triangulation, uint32_t *depths,
+                                     size_t depths_len, uint64_t *needed);
 
 #ifdef __cplusplus
 }

@@ -297,6 +297,173 @@ static void sweep_telling(const telling *it) {
     dcel_triangulation_free(&of);
 }
 
+/* Four corners, a point inside, and the sides. */
+static const dcel_point CORNERS[5] = {{0, 0}, {9, 0}, {9, 9}, {0, 9}, {4, 5}};
+static const dcel_ends SIDES[4] = {{0, 1}, {1, 2}, {2, 3}, {3, 0}};
+
+/* Nothing is located in one with constraints that isn't whole, nor made of it. */
+static void check_unfinished_constrained(const dcel_constrained *made) {
+    const dcel_point point = {1, 1};
+    dcel_position position = {77, 77};
+    bool answer = true;
+    if (!made->is_open || dcel_constrained_is_whole(made))
+        return;
+    must(dcel_constrained_locate(made, point, &position) == DCEL_UNFINISHED && position.kind == 77, "locate, unfinished");
+    must(dcel_constrained_can_add_constraint(made, 0, 1, &answer) == DCEL_UNFINISHED && answer, "can add, unfinished");
+}
+
+/* Inserts the points, makes segments constraints, frees one, and takes a vertex out: `done` is how far it comes. */
+static uint32_t work_on(dcel_constrained *made, uint32_t *vertices, int *done) {
+    uint64_t number;
+    bool answer = false;
+    uint32_t status = dcel_constrained_new(made);
+    *done = 0;
+    if (status == DCEL_DONE)
+        status = dcel_constrained_insert_all(made, CORNERS, 5, vertices, 5, &number);
+    if (status != DCEL_DONE)
+        return status;
+    const dcel_ends sides[3] = {{vertices[0], vertices[1]}, {vertices[1], vertices[2]}, {vertices[0], vertices[2]}};
+    *done = 1;
+    status = dcel_constrained_add_constraints(made, sides, 3, &number);
+    must(status == DCEL_DONE ? number == 3 : number < 3, "as many segments as are done");
+    if (status == DCEL_DONE)
+        status = dcel_constrained_add_constraint(made, vertices[2], vertices[3], &answer);
+    if (status != DCEL_DONE)
+        return status;
+    must(answer && dcel_constrained_num_constraints(made) == 4, "four constraints");
+    *done = 2;
+    status = dcel_constrained_remove_constraint(made, 0, &answer);
+    if (status == DCEL_DONE)
+        status = dcel_constrained_remove(made, vertices[4], &number);
+    if (status == DCEL_DONE)
+        status = dcel_constrained_insert(made, CORNERS[4], vertices);
+    return status;
+}
+
+/* A triangulation with constraints that finds no memory keeps its points and constraints, and it is whole or can be finished. */
+static void sweep_constrained(void) {
+    for (long met = 0;; met++) {
+        dcel_constrained made = DCEL_CONSTRAINED_INIT;
+        uint32_t v[5];
+        int done;
+        left = met;
+        uint32_t status = work_on(&made, v, &done);
+        left = -1;
+        must(status != DCEL_UNFINISHED || !dcel_constrained_is_whole(&made), "a whole triangulation is unfinished");
+        check_unfinished_constrained(&made);
+        must(dcel_constrained_finish(&made) == (made.is_open ? DCEL_DONE : DCEL_NO_MESH), "it can't be finished");
+        must(dcel_constrained_is_whole(&made) == made.is_open, "it isn't whole once it is finished");
+        must(done < 1 || dcel_constrained_num_vertices(&made) >= 4, "vertices are kept");
+        must(done < 2 || dcel_constrained_num_constraints(&made) >= 2, "constraints are kept");
+        dcel_constrained_free(&made);
+        if (status == DCEL_DONE) {
+            printf("constrained: %ld requests\n", met);
+            return;
+        }
+        must(status == DCEL_OUT_OF_MEMORY || status == DCEL_UNFINISHED, "constrained");
+    }
+}
+
+/* Points and segments that find no memory leave what was there. */
+static void sweep_load(void) {
+    for (long met = 0;; met++) {
+        dcel_constrained made = DCEL_CONSTRAINED_INIT;
+        uint32_t vertices[5] = {77, 77, 77, 77, 77};
+        uint64_t row = 77;
+        must(dcel_constrained_bulk_load(&made, CORNERS, 3, SIDES, 2, vertices, 5, &row) == DCEL_DONE, "there was no memory");
+        vertices[0] = 77;
+        left = met;
+        dcel_status status = dcel_constrained_bulk_load(&made, CORNERS, 5, SIDES, 4, vertices, 5, &row);
+        left = -1;
+        uint64_t count = dcel_constrained_num_constraints(&made);
+        dcel_constrained_free(&made);
+        must(row == 77, "no row is told");
+        if (status == DCEL_DONE) {
+            must(count == 4 && vertices[0] < 5, "all is loaded");
+            printf("load: %ld requests\n", met);
+            return;
+        }
+        must(status == DCEL_OUT_OF_MEMORY && count == 2 && vertices[0] == 77, "load");
+    }
+}
+
+/* What is told of one with constraints, or made of it. */
+typedef struct {
+    dcel_constrained copy;
+    dcel_point points[8];
+    dcel_triangle triangles[8];
+    dcel_across across[8];
+    dcel_ends edges[16], constraints[16];
+    uint32_t hull[8], depths[8];
+    uint64_t needed;
+} listed;
+
+static dcel_status list_copy(dcel_constrained *of, listed *it) { return dcel_constrained_clone(of, &it->copy); }
+static dcel_status list_points(dcel_constrained *of, listed *it) { return dcel_constrained_points(of, it->points, 8, &it->needed); }
+static dcel_status list_triangles(dcel_constrained *of, listed *it) {
+    return dcel_constrained_triangles(of, it->triangles, 8, &it->needed);
+}
+static dcel_status list_neighbors(dcel_constrained *of, listed *it) { return dcel_constrained_neighbors(of, it->across, 8, &it->needed); }
+static dcel_status list_edges(dcel_constrained *of, listed *it) { return dcel_constrained_edges(of, it->edges, 16, &it->needed); }
+static dcel_status list_hull(dcel_constrained *of, listed *it) { return dcel_constrained_hull(of, it->hull, 8, &it->needed); }
+static dcel_status list_constraints(dcel_constrained *of, listed *it) {
+    return dcel_constrained_constraints(of, it->constraints, 16, &it->needed);
+}
+static dcel_status list_regions(dcel_constrained *of, listed *it) { return dcel_constrained_regions(of, it->depths, 8, &it->needed); }
+static dcel_status list_made(dcel_constrained *of, listed *it) {
+    static dcel_triangulation from = DCEL_TRIANGULATION_INIT;
+    (void)of;
+    long allowed = left;
+    left = -1;
+    if (!from.is_open) {
+        uint32_t vertices[5];
+        uint64_t row;
+        must(dcel_triangulation_new(&from) == DCEL_DONE && dcel_triangulation_insert_all(&from, CORNERS, 5, vertices, 5, &row) == DCEL_DONE,
+             "there was no memory for the points");
+    }
+    left = allowed;
+    dcel_status status = dcel_constrained_from_triangulation(&from, &it->copy);
+    if (status == DCEL_DONE)
+        dcel_triangulation_free(&from);
+    return status;
+}
+
+typedef struct {
+    const char *name;
+    dcel_status (*call)(dcel_constrained *of, listed *it);
+} listing;
+
+static const listing LISTINGS[] = {
+    {"clone, constrained", list_copy},      {"points, constrained", list_points}, {"triangles, constrained", list_triangles},
+    {"neighbors, constrained", list_neighbors}, {"edges, constrained", list_edges},   {"hull, constrained", list_hull},
+    {"constraints", list_constraints},      {"regions", list_regions},            {"constrained of a triangulation", list_made},
+};
+
+/* A call that finds no memory to list what one with constraints has leaves its buffer. */
+static void sweep_listing(const listing *it) {
+    dcel_constrained of = DCEL_CONSTRAINED_INIT;
+    uint32_t vertices[5];
+    uint64_t row;
+    must(dcel_constrained_bulk_load(&of, CORNERS, 5, SIDES, 4, vertices, 5, &row) == DCEL_DONE, "there was no memory for the points");
+    for (long met = 0;; met++) {
+        static listed before, after;
+        memset(&before, 0, sizeof before);
+        memset(&after, 0, sizeof after);
+        left = met;
+        dcel_status status = it->call(&of, &after);
+        left = -1;
+        bool is_same = memcmp(&before, &after, sizeof after) == 0;
+        dcel_constrained_free(&after.copy);
+        must(status == DCEL_DONE || (status == DCEL_OUT_OF_MEMORY && is_same), it->name);
+        if (status == DCEL_DONE) {
+            must(!is_same, it->name);
+            printf("%s: %ld requests\n", it->name, met);
+            break;
+        }
+    }
+    dcel_constrained_free(&of);
+}
+
 int main(void) {
     for (size_t i = 0; i < sizeof TELLINGS / sizeof TELLINGS[0]; i++)
         sweep_telling(&TELLINGS[i]);
@@ -305,5 +472,9 @@ int main(void) {
     sweep_clone();
     sweep_replies();
     sweep_triangulation();
+    for (size_t i = 0; i < sizeof LISTINGS / sizeof LISTINGS[0]; i++)
+        sweep_listing(&LISTINGS[i]);
+    sweep_constrained();
+    sweep_load();
     return EXIT_SUCCESS;
 }

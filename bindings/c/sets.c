@@ -1,4 +1,5 @@
-/* Triangulates 200 sets of points, and compares what is told of each triangulation with what the definitions say, exactly. */
+/* Triangulates 200 sets of points, without and with constraints, and compares what is told of each triangulation with what the
+   definitions say, exactly. */
 #include "dcel.h"
 
 #include <inttypes.h>
@@ -6,7 +7,7 @@
 #include <stdlib.h>
 #include <string.h>
 
-enum { SETS = 200, MOST = 40, SIDE = 24, PLACES = (SIDE + 2) * (SIDE + 2) };
+enum { SETS = 200, MOST = 40, SIDE = 24, PLACES = (SIDE + 2) * (SIDE + 2), SEGMENTS = 12 };
 
 /* What is told of a triangulation. No list is longer. */
 typedef struct {
@@ -15,8 +16,9 @@ typedef struct {
     dcel_across across[2 * MOST];
     dcel_ends edges[3 * MOST];
     dcel_half_edge halves[6 * MOST];
-    uint32_t hull[2 * MOST];
-    size_t vertices, faces, sides, around;
+    uint32_t hull[2 * MOST], depths[2 * MOST];
+    dcel_ends constraints[3 * MOST];
+    size_t vertices, faces, sides, around, marked;
 } told;
 
 static int set = -1;
@@ -92,15 +94,13 @@ static void tell(const dcel_triangulation *made, told *it) {
          "counts");
 }
 
-/* The triangles go round counterclockwise, have no point inside their circles, and fill the hull, in which they can't overlap then. */
+/* The triangles go round counterclockwise, and fill the hull, in which they can't overlap then. */
 static void check_triangles(const told *it) {
     int64_t inside = 0, whole = 0;
     for (size_t t = 0; t < it->faces; t++) {
         dcel_point a = it->points[it->triangles[t].first], b = it->points[it->triangles[t].second], c = it->points[it->triangles[t].third];
         must(area(a, b, c) > 0, "a triangle is counterclockwise");
         inside += area(a, b, c);
-        for (size_t v = 0; v < it->vertices; v++)
-            must(in_circle(a, b, c, it->points[v]) <= 0, "a circle is empty");
     }
     for (size_t i = 0; i < it->around; i++) {
         dcel_point a = it->points[it->hull[i]], b = it->points[it->hull[(i + 1) % it->around]];
@@ -109,6 +109,15 @@ static void check_triangles(const told *it) {
             must(area(a, b, it->points[v]) >= 0 && !is_between(a, b, it->points[v]), "no point lies beyond the hull, nor between two of it");
     }
     must(inside == whole, "the triangles fill the hull");
+}
+
+/* No point lies inside the circle of a triangle. */
+static void check_circles(const told *it) {
+    for (size_t t = 0; t < it->faces; t++) {
+        dcel_point a = it->points[it->triangles[t].first], b = it->points[it->triangles[t].second], c = it->points[it->triangles[t].third];
+        for (size_t v = 0; v < it->vertices; v++)
+            must(in_circle(a, b, c, it->points[v]) <= 0, "a circle is empty");
+    }
 }
 
 /* Across from each corner lies the triangle that has the other two too, and none does on the hull alone. */
@@ -234,6 +243,241 @@ static void check_clone(dcel_triangulation *made, const told *it) {
     dcel_triangulation_free(&clone);
 }
 
+static void tell_constrained(const dcel_constrained *made, told *it) {
+    uint64_t needed;
+    done(dcel_constrained_points(made, it->points, MOST, &needed), "points");
+    it->vertices = (size_t)needed;
+    done(dcel_constrained_triangles(made, it->triangles, 2 * MOST, &needed), "triangles");
+    it->faces = (size_t)needed;
+    done(dcel_constrained_neighbors(made, it->across, 2 * MOST, &needed), "neighbors");
+    done(dcel_constrained_regions(made, it->depths, 2 * MOST, &needed), "regions");
+    must(needed == it->faces, "a depth for each triangle");
+    done(dcel_constrained_edges(made, it->edges, 3 * MOST, &needed), "edges");
+    it->sides = (size_t)needed;
+    done(dcel_constrained_constraints(made, it->constraints, 3 * MOST, &needed), "constraints");
+    it->marked = (size_t)needed;
+    done(dcel_constrained_directed_edges(made, it->halves, 6 * MOST, &needed), "half edges");
+    done(dcel_constrained_hull(made, it->hull, 2 * MOST, &needed), "hull");
+    it->around = (size_t)needed;
+    must(dcel_constrained_num_vertices(made) == it->vertices && dcel_constrained_num_triangles(made) == it->faces &&
+             dcel_constrained_num_edges(made) == it->sides && dcel_constrained_num_constraints(made) == it->marked,
+         "counts");
+}
+
+static bool is_marked(const told *it, uint32_t from, uint32_t to) {
+    for (size_t i = 0; i < it->marked; i++)
+        if ((it->constraints[i].from == from && it->constraints[i].to == to) || (it->constraints[i].from == to && it->constraints[i].to == from))
+            return true;
+    return false;
+}
+
+/* Two triangles at an edge that is no constraint have no corner inside the circle of each other. */
+static void check_legal(const told *it) {
+    for (size_t t = 0; t < it->faces; t++)
+        for (int k = 0; k < 3; k++) {
+            uint32_t other = beyond(it->across[t], k), next = corner(it->triangles[t], (k + 1) % 3), last = corner(it->triangles[t], (k + 2) % 3);
+            if (other == UINT32_MAX || is_marked(it, next, last))
+                continue;
+            for (int j = 0; j < 3; j++) {
+                uint32_t v = corner(it->triangles[other], j);
+                must(in_circle(it->points[corner(it->triangles[t], k)], it->points[next], it->points[last], it->points[v]) <= 0, "an edge is legal");
+            }
+        }
+}
+
+/* Depths are the least that one step from a neighbor, or from outside, allows; and no smaller ones do. */
+static void check_depths(const told *it) {
+    uint32_t least[2 * MOST];
+    bool is_less = true;
+    for (size_t t = 0; t < it->faces; t++)
+        least[t] = 3 * MOST;
+    while (is_less) {
+        is_less = false;
+        for (size_t t = 0; t < it->faces; t++)
+            for (int k = 0; k < 3; k++) {
+                uint32_t other = beyond(it->across[t], k), before = other == UINT32_MAX ? 0 : least[other];
+                before += is_marked(it, corner(it->triangles[t], (k + 1) % 3), corner(it->triangles[t], (k + 2) % 3));
+                is_less |= before < least[t];
+                least[t] = before < least[t] ? before : least[t];
+            }
+    }
+    for (size_t t = 0; t < it->faces; t++)
+        must(it->depths[t] == least[t], "a depth is the least number of constraints");
+}
+
+/* The constraints are edges, by their numbers, their ends and their order. */
+static void check_marks(const dcel_constrained *made, const told *it) {
+    size_t marked = 0;
+    for (uint32_t u = 0; u < it->sides; u++) {
+        dcel_ends ends = it->edges[u];
+        bool is_one = dcel_constrained_is_constraint(made, u);
+        must(is_one == is_marked(it, ends.from, ends.to) && is_one == dcel_constrained_exists_constraint(made, ends.to, ends.from), "marks");
+        if (is_one)
+            must(it->constraints[marked].from == ends.from && it->constraints[marked].to == ends.to, "constraints are in order");
+        marked += is_one;
+    }
+    must(marked == it->marked && !dcel_constrained_is_constraint(made, (uint32_t)it->sides), "as many constraints");
+}
+
+/* Whether two segments cross, in a point that is an end of neither. */
+static bool do_cross(dcel_point a, dcel_point b, dcel_point c, dcel_point d) {
+    int64_t one = area(a, b, c), other = area(a, b, d), third = area(c, d, a), fourth = area(c, d, b);
+    return ((one < 0 && other > 0) || (one > 0 && other < 0)) && ((third < 0 && fourth > 0) || (third > 0 && fourth < 0));
+}
+
+/* The segment is one of constraints, from each vertex on it to the next. */
+static void check_segment(const told *it, uint32_t from, uint32_t to) {
+    while (from != to) {
+        uint32_t next = to;
+        for (uint32_t v = 0; v < it->vertices; v++)
+            if (is_between(it->points[from], it->points[next], it->points[v]))
+                next = v;
+        must(is_marked(it, from, next), "a segment is one of constraints");
+        from = next;
+    }
+}
+
+/* All is so that is to be so of one with constraints. */
+static void check_whole(const dcel_constrained *made, told *it) {
+    dcel_position at;
+    tell_constrained(made, it);
+    check_triangles(it);
+    check_legal(it);
+    check_depths(it);
+    check_neighbors(it);
+    check_links(it);
+    check_marks(made, it);
+    for (int i = 0; i < 40; i++) {
+        dcel_point asked = {some(SIDE + 2) - (int64_t)1, some(SIDE + 2) - (int64_t)1};
+        done(dcel_constrained_locate(made, asked, &at), "locate");
+        check_place(it, asked, at);
+    }
+}
+
+/* Adds a segment if no constraint crosses it. Returns whether it was. */
+static bool add(dcel_constrained *made, told *it, uint32_t from, uint32_t to) {
+    bool answer, added = true, is_crossed = false, is_new;
+    uint64_t before = it->marked;
+    for (size_t i = 0; i < it->marked; i++)
+        is_crossed |= do_cross(it->points[from], it->points[to], it->points[it->constraints[i].from], it->points[it->constraints[i].to]);
+    done(dcel_constrained_can_add_constraint(made, from, to, &answer), "can add");
+    must(answer == !is_crossed, "a segment can be added if nothing crosses it");
+    dcel_status status = dcel_constrained_add_constraint(made, from, to, &added);
+    must(status == (is_crossed ? DCEL_CROSSES : DCEL_DONE) && (added || !is_crossed), "add");
+    is_new = dcel_constrained_num_constraints(made) > before;
+    must(is_crossed ? !is_new : added == is_new, "what is told of a constraint");
+    tell_constrained(made, it);
+    if (!is_crossed)
+        check_segment(it, from, to);
+    return !is_crossed;
+}
+
+/* Points, and segments between them one by one, and then at once; and constraints split, freed, and taken away with a vertex. */
+static void check_constrained(const dcel_point *given, uint32_t count) {
+    static told it, other;
+    dcel_constrained made = DCEL_CONSTRAINED_INIT, copy = DCEL_CONSTRAINED_INIT;
+    dcel_ends rows[SEGMENTS];
+    uint32_t vertices[MOST], vertex, used = 0;
+    uint64_t row = 77, moved;
+    bool was;
+    done(dcel_constrained_new(&made), "new");
+    done(dcel_constrained_insert_all(&made, given, count, vertices, MOST, &row), "insert all");
+    check_whole(&made, &it);
+    for (uint32_t i = 0; i < count; i++)
+        must(are_equal(it.points[vertices[i]], given[i]), "each point stands at its vertex");
+    for (int i = 0; count > 0 && i < SEGMENTS; i++) {
+        rows[used].from = some(count);
+        rows[used].to = some(count);
+        used += add(&made, &it, vertices[rows[used].from], vertices[rows[used].to]);
+    }
+    check_whole(&made, &it);
+    done(dcel_constrained_clone(&made, &copy), "clone");
+    tell_constrained(&copy, &other);
+    must(tell_the_same(&it, &other) && it.marked == other.marked, "a clone tells the same");
+    done(dcel_constrained_bulk_load(&copy, given, count, rows, used, vertices, MOST, &row), "load");
+    check_whole(&copy, &other);
+    must(other.marked == it.marked && row == 77, "as many constraints, if all are loaded at once");
+    for (uint32_t i = 0; i < used; i++)
+        check_segment(&other, vertices[rows[i].from], vertices[rows[i].to]);
+    if (it.sides > 0) {
+        uint32_t edge = some((uint32_t)it.sides);
+        done(dcel_constrained_remove_constraint(&made, edge, &was), "remove a constraint");
+        must(was == is_marked(&it, it.edges[edge].from, it.edges[edge].to), "whether it was one");
+        tell_constrained(&made, &other);
+        must(other.marked == it.marked - was, "one constraint less");
+        check_whole(&made, &it);
+    }
+    dcel_point more = {some(SIDE), some(SIDE)};
+    done(dcel_constrained_insert(&made, more, &vertex), "insert");
+    check_whole(&made, &it);
+    must(are_equal(it.points[vertex], more), "the point is there");
+    done(dcel_constrained_remove(&made, some((uint32_t)it.vertices), &moved), "remove");
+    must(moved == DCEL_NONE || moved == it.vertices - 1, "the last vertex is moved");
+    check_whole(&made, &it);
+    dcel_constrained_free(&made);
+    check_whole(&copy, &other);
+    dcel_constrained_free(&copy);
+}
+
+/* Each call that asks for memory has it for a large grid, whose rows and sides are constraints. */
+static void check_large(void) {
+    enum { WIDE = 200, HIGH = 100, ALL = WIDE * HIGH };
+    static dcel_point points[ALL];
+    static dcel_triangle triangles[2 * ALL];
+    static dcel_across across[2 * ALL];
+    static dcel_ends rows[HIGH + 2], edges[3 * ALL], constraints[3 * ALL];
+    static uint32_t vertices[ALL], hull[ALL], depths[2 * ALL];
+    const uint64_t faces = 2 * (WIDE - 1) * (HIGH - 1), marked = (uint64_t)HIGH * (WIDE - 1) + 2 * (HIGH - 1);
+    dcel_triangulation plain = DCEL_TRIANGULATION_INIT;
+    dcel_constrained made = DCEL_CONSTRAINED_INIT, copy = DCEL_CONSTRAINED_INIT;
+    uint64_t row, needed, listed;
+    for (uint32_t i = 0; i < ALL; i++) {
+        points[i].x = i % WIDE;
+        points[i].y = i / WIDE;
+    }
+    for (uint32_t i = 0; i < HIGH; i++) {
+        rows[i].from = i * WIDE;
+        rows[i].to = i * WIDE + WIDE - 1;
+    }
+    for (uint32_t i = 0; i < 2; i++) {
+        rows[HIGH + i].from = i * (WIDE - 1);
+        rows[HIGH + i].to = (HIGH - 1) * WIDE + i * (WIDE - 1);
+    }
+    done(dcel_constrained_bulk_load(&made, points, ALL, rows, HIGH + 2, vertices, ALL, &row), "load a grid");
+    must(dcel_constrained_num_triangles(&made) == faces && dcel_constrained_num_constraints(&made) == marked, "the grid");
+    done(dcel_constrained_clone(&made, &copy), "clone a grid");
+    done(dcel_constrained_points(&copy, points, ALL, &needed), "points of a grid");
+    done(dcel_constrained_triangles(&copy, triangles, 2 * ALL, &needed), "triangles of a grid");
+    done(dcel_constrained_neighbors(&copy, across, 2 * ALL, &needed), "neighbors of a grid");
+    done(dcel_constrained_edges(&copy, edges, 3 * ALL, &needed), "edges of a grid");
+    done(dcel_constrained_hull(&copy, hull, ALL, &needed), "hull of a grid");
+    must(needed == 2 * (WIDE + HIGH - 2), "the hull has all points of its sides");
+    done(dcel_constrained_constraints(&copy, constraints, 3 * ALL, &listed), "constraints of a grid");
+    done(dcel_constrained_regions(&copy, depths, 2 * ALL, &needed), "regions of a grid");
+    must(listed == marked && needed == faces, "lists of the grid");
+    for (uint64_t i = 0; i < faces; i++)
+        must(depths[i] == 1, "each triangle is inside of one constraint");
+    done(dcel_triangulation_new(&plain), "new");
+    done(dcel_triangulation_insert_all(&plain, points, ALL, vertices, ALL, &row), "insert a grid");
+    done(dcel_constrained_from_triangulation(&plain, &made), "constrained of a grid");
+    must(dcel_constrained_num_constraints(&made) == 0, "no constraint yet");
+    done(dcel_constrained_points(&made, points, ALL, &needed), "points of a grid");
+    for (uint32_t v = 0; v < ALL; v++)
+        vertices[points[v].y * WIDE + points[v].x] = v;
+    for (uint32_t i = 0; i < HIGH + 2; i++) {
+        rows[i].from = vertices[rows[i].from];
+        rows[i].to = vertices[rows[i].to];
+    }
+    done(dcel_constrained_add_constraints(&made, rows, HIGH + 2, &row), "add to a grid");
+    must(row == HIGH + 2 && dcel_constrained_num_constraints(&made) == marked, "all rows and sides");
+    done(dcel_constrained_new(&made), "new");
+    done(dcel_constrained_insert_all(&made, points, ALL, vertices, ALL, &row), "insert a grid");
+    must(dcel_constrained_num_triangles(&made) == faces, "the grid again");
+    dcel_triangulation_free(&plain);
+    dcel_constrained_free(&made);
+    dcel_constrained_free(&copy);
+}
+
 int main(void) {
     static told it;
     for (set = 0; set < SETS; set++) {
@@ -260,12 +504,15 @@ int main(void) {
                 must(!are_equal(it.points[v], it.points[w]), "points are single");
         }
         check_triangles(&it);
+        check_circles(&it);
         check_neighbors(&it);
         check_links(&it);
         check_mesh(&it);
         check_places(&made, &it);
         check_clone(&made, &it);
+        check_constrained(given, count);
     }
+    check_large();
     printf("%d sets\n", set);
     return EXIT_SUCCESS;
 }

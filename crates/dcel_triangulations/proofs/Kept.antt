@@ -31,7 +31,7 @@ use Rattle.dcel_triangulations.specs.declared.held.Held.{Held}
 use Rattle.dcel_triangulations.proofs.Payload.{points_laws}
 
 -- what is there
-there : {T : Type 0} → (o : Option T) → IsSome o → (x : T) × (o ≡ Some x)
+pub there : {T : Type 0} → (o : Option T) → IsSome o → (x : T) × (o ≡ Some x)
 there None is = absurd (true≢false (sym is))
 there (Some x) is = (x, refl)
 

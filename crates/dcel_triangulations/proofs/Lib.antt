@@ -1,6 +1,11 @@
+pub mod ConstrainedKept
+pub mod ConstrainedPayload
 pub mod Delaunay
+pub mod Depths
 pub mod Filling
 pub mod Kept
+pub mod Laying
 pub mod Live
+pub mod Marked
 pub mod Payload
 pub mod Read

@@ -37,6 +37,7 @@ pub record InsertsAll (given : List DcelPoint) (before after : List ℕ) (old ne
   pub put : after ≡ filled vertices before
   pub adds : AddsVertices (mesh_in old) (mesh_in new) points (length points)
   pub whole : IsWhole new
+  pub same : IsWhole old → (mesh_in new).vertex_data ≡ (mesh_in old).vertex_data → mesh_in new ≡ mesh_in old
 
 -- some may be inserted, and the rest isn't
 pub record FailsAmong (given : List DcelPoint) (status : ℕ) (old new : State) : Type 0 where
@@ -46,6 +47,7 @@ pub record FailsAmong (given : List DcelPoint) (status : ℕ) (old new : State) 
   pub why : status ≡ insertion_status error
   pub fails : FailsToInsertAll old.planar new.planar error
   pub adds : AddsVertices (mesh_in old) (mesh_in new) points (length points)
+  pub same : IsWhole old → (mesh_in new).vertex_data ≡ (mesh_in old).vertex_data → mesh_in new ≡ mesh_in old
 
 -- there is no memory to read them, or it fails among them
 abbrev pub FailsToInsertAllOf : List DcelPoint → ℕ → State → State → Type 0

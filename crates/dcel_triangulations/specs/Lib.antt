@@ -9,3 +9,4 @@ pub mod Removing
 pub mod Statuses
 pub mod Triangulating
 pub mod Wholes
+pub mod constrained

@@ -17,6 +17,9 @@ pub record AreRead (given : List DcelPoint) (points : List Point) : Type 0 where
 abbrev pub IsFar : DcelPoint → Type 0
 IsFar g = (2 ^ 53 < unsigned_abs g.x) ⊎ (2 ^ 53 < unsigned_abs g.y)
 
--- one of the point in this row is
-abbrev pub IsFarIn : List DcelPoint → ℕ → Type 0
-IsFarIn given row = (g : DcelPoint) × (slice_get given row ≡ Some g) × IsFar g
+-- the point in this row is the first of which one is
+pub record IsFirstFar (given : List DcelPoint) (row : ℕ) : Type 0 where
+  pub point : DcelPoint
+  pub there : slice_get given row ≡ Some point
+  pub far : IsFar point
+  pub first : (i : ℕ) (g : DcelPoint) → i < row → slice_get given i ≡ Some g → ¬ IsFar g

@@ -1,6 +1,6 @@
 //! Whole triangulations cloned.
 
-ghost use Rattle.std.specs.Prelude.{◌≡◌, ◌≢◌, ◌≤◌, ◌⊎◌, None};
+ghost use Rattle.std.specs.Prelude.{◌≡◌, ◌≢◌, ◌↔◌, ◌≤◌, ◌⊎◌, None};
 ghost use Rattle.dcel_triangulations.specs.Calls.{AreSo, kept_in};
 ghost use Rattle.dcel_triangulations.specs.Wholes.{IsCopy};
 
@@ -14,7 +14,7 @@ use std::alloc::Global;
 pub fn clone(alloc: Global, from: &mut DcelTriangulation, to: &mut DcelTriangulation) -> u32
     ensures done { result ≡ 0 → AreSo IsCopy (kept_in from.old) (kept_in to.new) }
     ensures refused { result ≢ 0 → kept_in to.new ≡ kept_in to.old }
-    ensures none { result ≡ 21 → kept_in from.old ≡ None }
+    ensures none { (result ≡ 21) ↔ (kept_in from.old ≡ None) }
     ensures status { (result ≡ 0) ⊎ ((20 ≤ result) × (result ≤ 21)) }
     ensures same { kept_in from.new ≡ kept_in from.old }
 {

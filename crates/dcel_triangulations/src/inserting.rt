@@ -1,10 +1,10 @@
 //! Points inserted, one or many at once.
 
-ghost use Rattle.std.specs.Prelude.{◌≡◌, ◌≢◌, ◌≤◌, ◌<◌, ◌⊎◌, None, length};
+ghost use Rattle.std.specs.Prelude.{◌≡◌, ◌≢◌, ◌↔◌, ◌≤◌, ◌<◌, ◌⊎◌, None, length};
 ghost use Rattle.dcel_exports.specs.Answers.{filled};
 ghost use Rattle.dcel_triangulations.specs.Calls.{AreSo, kept_in};
 ghost use Rattle.dcel_triangulations.specs.Inserting.{FailsToInsertAllOf, FailsToInsertPoint, InsertsAll, InsertsPoint};
-ghost use Rattle.dcel_triangulations.specs.Points.{IsFar, IsFarIn};
+ghost use Rattle.dcel_triangulations.specs.Points.{IsFar, IsFirstFar};
 
 use crate::points::{DcelPoint, point_of, read_points};
 use crate::status::{DONE, NO_MESH, OUT_OF_RANGE, SHORT, status_of_insertion};
@@ -19,7 +19,7 @@ use std::alloc::Global;
 pub fn insert(triangulation: &mut DcelTriangulation, point: DcelPoint, vertex: &mut u32) -> u32
     ensures done { result ≡ 0 → AreSo (InsertsPoint point vertex.new) (kept_in triangulation.old) (kept_in triangulation.new) }
     ensures fails { result ≢ 0 → result ≢ 21 → result ≢ 24 → AreSo (FailsToInsertPoint point result) (kept_in triangulation.old) (kept_in triangulation.new) }
-    ensures none { result ≡ 21 → kept_in triangulation.old ≡ None }
+    ensures none { (result ≡ 21) ↔ (kept_in triangulation.old ≡ None) }
     ensures out_of_range { result ≡ 24 → IsFar point }
     ensures same { (result ≡ 21) ⊎ (result ≡ 24) → kept_in triangulation.new ≡ kept_in triangulation.old }
     ensures untold { result ≢ 0 → vertex.new ≡ vertex.old }
@@ -51,7 +51,7 @@ pub fn insert_with_hint(
 ) -> u32
     ensures done { result ≡ 0 → AreSo (InsertsPoint point vertex.new) (kept_in triangulation.old) (kept_in triangulation.new) }
     ensures fails { result ≢ 0 → result ≢ 21 → result ≢ 24 → AreSo (FailsToInsertPoint point result) (kept_in triangulation.old) (kept_in triangulation.new) }
-    ensures none { result ≡ 21 → kept_in triangulation.old ≡ None }
+    ensures none { (result ≡ 21) ↔ (kept_in triangulation.old ≡ None) }
     ensures out_of_range { result ≡ 24 → IsFar point }
     ensures same { (result ≡ 21) ⊎ (result ≡ 24) → kept_in triangulation.new ≡ kept_in triangulation.old }
     ensures untold { result ≢ 0 → vertex.new ≡ vertex.old }
@@ -75,8 +75,8 @@ pub fn insert_with_hint(
 /// Inserts points in an order of its own, in which walks are short, and puts the vertex of each into
 /// the buffer, in the order of the points. What lies behind them there stays.
 ///
-/// If a coordinate is out of range, its row is told, and no point is inserted. If memory or numbers
-/// run out, the points that were inserted so far stay.
+/// If coordinates are out of range, the first row that has one is told, and no point is inserted. If
+/// memory or numbers run out, the points that were inserted so far stay.
 pub fn insert_all(
     alloc: Global,
     triangulation: &mut DcelTriangulation,
@@ -85,11 +85,12 @@ pub fn insert_all(
     row: &mut u64,
 ) -> u32
     ensures done { result ≡ 0 → AreSo (InsertsAll points.now vertices.old vertices.new) (kept_in triangulation.old) (kept_in triangulation.new) }
+    ensures fits { result ≡ 0 → length points.now ≤ length vertices.old }
     ensures fails { result ≢ 0 → result ≢ 21 → result ≢ 22 → result ≢ 24 →
         AreSo (FailsToInsertAllOf points.now result) (kept_in triangulation.old) (kept_in triangulation.new) }
-    ensures none { result ≡ 21 → kept_in triangulation.old ≡ None }
+    ensures none { (result ≡ 21) ↔ (kept_in triangulation.old ≡ None) }
     ensures short { result ≡ 22 → length vertices.old < length points.now }
-    ensures out_of_range { result ≡ 24 → IsFarIn points.now row.new }
+    ensures out_of_range { result ≡ 24 → IsFirstFar points.now row.new }
     ensures same { 21 ≤ result → result ≤ 24 → kept_in triangulation.new ≡ kept_in triangulation.old }
     ensures untold { result ≢ 0 → vertices.new ≡ vertices.old }
     ensures in_range { result ≢ 24 → row.new ≡ row.old }
@@ -114,7 +115,7 @@ pub fn insert_all(
 }
 
 /// Puts the numbers of vertices into the buffer, as many as fit.
-fn put_numbers(list: &[FixedVertexHandle], buffer: &mut [u32])
+pub(crate) fn put_numbers(list: &[FixedVertexHandle], buffer: &mut [u32])
     ensures { buffer.new ≡ filled list.now buffer.old }
 {
     let fitting = list.len().min(buffer.len());

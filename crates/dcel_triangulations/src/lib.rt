@@ -1,5 +1,6 @@
 //! Triangulations of points that are kept across calls, for C and languages that call C:
-//! [`DcelTriangulation`], with a function for each call of `dcel_delaunay`.
+//! [`DcelTriangulation`], with a function for each call of `dcel_delaunay`, and in [`constrained`]
+//! those with constraints.
 //!
 //! The functions take what C passes: a triangulation or none, points with coordinates that may be
 //! out of range, numbers of vertices that may not be there, and buffers. They return statuses, as
@@ -8,6 +9,7 @@
 
 mod buffers;
 mod cloning;
+pub mod constrained;
 mod held;
 mod inserting;
 mod links;

@@ -7,7 +7,7 @@ ghost use Rattle.dcel_triangulations.specs.Lists.{IsPut, half_edges_of, links_of
 
 use crate::status::{DONE, NO_MESH, SHORT};
 use crate::triangulation::DcelTriangulation;
-use dcel_delaunay::Mesh;
+use dcel_planar::EdgeMesh;
 use spade_dcel::handles::FixedDirectedEdgeHandle;
 use std::alloc::Global;
 
@@ -45,8 +45,12 @@ pub fn directed_edges(
     put_links(triangulation.held.as_mut().dcel(), half_edges, needed)
 }
 
-/// Puts the links of each half edge into the buffer, if they all fit.
-fn put_links(dcel: &Mesh<Global>, half_edges: &mut [DcelHalfEdge], needed: &mut u64) -> u32
+/// Puts the links of each half edge of a mesh into the buffer, if they all fit.
+pub(crate) fn put_links<UE>(
+    dcel: &EdgeMesh<UE, Global>,
+    half_edges: &mut [DcelHalfEdge],
+    needed: &mut u64,
+) -> u32
     requires { dcel.now.shape.removal ≡ Closed }
     ensures { IsPut (links_told dcel.now.shape) half_edges.old half_edges.new needed.new result }
 {
@@ -65,7 +69,7 @@ fn put_links(dcel: &Mesh<Global>, half_edges: &mut [DcelHalfEdge], needed: &mut 
 
 /// Returns the links of a half edge.
 #[inline]
-fn links(dcel: &Mesh<Global>, number: FixedDirectedEdgeHandle) -> DcelHalfEdge
+fn links<UE>(dcel: &EdgeMesh<UE, Global>, number: FixedDirectedEdgeHandle) -> DcelHalfEdge
     requires closed { dcel.now.shape.removal ≡ Closed }
     requires within { number < 2 * dcel.now.shape.edges }
     ensures { result ≡ links_of dcel.now.shape number }

@@ -5,7 +5,7 @@
 //! doesn't fit, the status is SHORT, and the buffer stays; `needed` is how many items there are in
 //! both cases. If there is no memory or no triangulation, the buffer stays, and `needed` is 0.
 
-ghost use Rattle.std.specs.Prelude.{◌≡◌, ◌≢◌, ◌⊎◌, None};
+ghost use Rattle.std.specs.Prelude.{◌≡◌, ◌≢◌, ◌↔◌, ◌⊎◌, None};
 ghost use Rattle.dcel_triangulations.specs.Calls.{IsSo, IsWhole, kept_in};
 ghost use Rattle.dcel_triangulations.specs.Lists.{IsPut, ListsDelaunayTriangles, edges_of, hull_of, neighbors_of, points_of, triangles_of};
 
@@ -27,7 +27,7 @@ pub fn list_points(
 ) -> u32
     ensures points { result ≢ 20 → result ≢ 21 → IsSo (λ t. IsPut (points_of t) points.old points.new needed.new result) (kept_in triangulation.old) }
     ensures refused { (result ≡ 20) ⊎ (result ≡ 21) → (points.new ≡ points.old) × (needed.new ≡ 0) }
-    ensures none { result ≡ 21 → kept_in triangulation.old ≡ None }
+    ensures none { (result ≡ 21) ↔ (kept_in triangulation.old ≡ None) }
     ensures same { kept_in triangulation.new ≡ kept_in triangulation.old }
 {
     *needed = 0;
@@ -52,7 +52,7 @@ pub fn list_triangles(
     ensures triangles { result ≢ 20 → result ≢ 21 → IsSo (λ t. IsPut (triangles_of t) triangles.old triangles.new needed.new result) (kept_in triangulation.old) }
     ensures delaunay { result ≢ 20 → result ≢ 21 → IsSo (λ t. IsWhole t → ListsDelaunayTriangles t) (kept_in triangulation.old) }
     ensures refused { (result ≡ 20) ⊎ (result ≡ 21) → (triangles.new ≡ triangles.old) × (needed.new ≡ 0) }
-    ensures none { result ≡ 21 → kept_in triangulation.old ≡ None }
+    ensures none { (result ≡ 21) ↔ (kept_in triangulation.old ≡ None) }
     ensures same { kept_in triangulation.new ≡ kept_in triangulation.old }
 {
     *needed = 0;
@@ -77,7 +77,7 @@ pub fn list_neighbors(
 ) -> u32
     ensures neighbors { result ≢ 20 → result ≢ 21 → IsSo (λ t. IsPut (neighbors_of t) across.old across.new needed.new result) (kept_in triangulation.old) }
     ensures refused { (result ≡ 20) ⊎ (result ≡ 21) → (across.new ≡ across.old) × (needed.new ≡ 0) }
-    ensures none { result ≡ 21 → kept_in triangulation.old ≡ None }
+    ensures none { (result ≡ 21) ↔ (kept_in triangulation.old ≡ None) }
     ensures same { kept_in triangulation.new ≡ kept_in triangulation.old }
 {
     *needed = 0;
@@ -99,7 +99,7 @@ pub fn list_edges(
 ) -> u32
     ensures edges { result ≢ 20 → result ≢ 21 → IsSo (λ t. IsPut (edges_of t) edges.old edges.new needed.new result) (kept_in triangulation.old) }
     ensures refused { (result ≡ 20) ⊎ (result ≡ 21) → (edges.new ≡ edges.old) × (needed.new ≡ 0) }
-    ensures none { result ≡ 21 → kept_in triangulation.old ≡ None }
+    ensures none { (result ≡ 21) ↔ (kept_in triangulation.old ≡ None) }
     ensures same { kept_in triangulation.new ≡ kept_in triangulation.old }
 {
     *needed = 0;
@@ -124,7 +124,7 @@ pub fn list_hull(
 ) -> u32
     ensures hull { result ≢ 20 → result ≢ 21 → IsSo (λ t. IsPut (hull_of t) vertices.old vertices.new needed.new result) (kept_in triangulation.old) }
     ensures refused { (result ≡ 20) ⊎ (result ≡ 21) → (vertices.new ≡ vertices.old) × (needed.new ≡ 0) }
-    ensures none { result ≡ 21 → kept_in triangulation.old ≡ None }
+    ensures none { (result ≡ 21) ↔ (kept_in triangulation.old ≡ None) }
     ensures same { kept_in triangulation.new ≡ kept_in triangulation.old }
 {
     *needed = 0;

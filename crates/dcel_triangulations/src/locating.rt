@@ -1,9 +1,9 @@
 //! Points located in a triangulation, one or many at once.
 
-ghost use Rattle.std.specs.Prelude.{◌≡◌, ◌≢◌, ◌≤◌, ◌<◌, ◌⊎◌, None, length, map};
+ghost use Rattle.std.specs.Prelude.{◌≡◌, ◌≢◌, ◌↔◌, ◌≤◌, ◌<◌, ◌⊎◌, None, length, map};
 ghost use Rattle.dcel_exports.specs.Answers.{filled};
 ghost use Rattle.dcel_triangulations.specs.Calls.{IsSo, IsWhole, kept_in};
-ghost use Rattle.dcel_triangulations.specs.Points.{IsFar, IsFarIn};
+ghost use Rattle.dcel_triangulations.specs.Points.{IsFar, IsFirstFar};
 ghost use Rattle.dcel_triangulations.specs.Positions.{IsPlaceOf, LocatesAll, position_told};
 
 use crate::points::{DcelPoint, point_of, read_points};
@@ -23,7 +23,7 @@ pub fn locate(
     position: &mut DcelPosition,
 ) -> u32
     ensures done { result ≡ 0 → IsSo (IsPlaceOf point position.new) (kept_in triangulation.old) }
-    ensures none { result ≡ 21 → kept_in triangulation.old ≡ None }
+    ensures none { (result ≡ 21) ↔ (kept_in triangulation.old ≡ None) }
     ensures out_of_range { result ≡ 24 → IsFar point }
     ensures unfinished { result ≡ 25 → IsSo (λ t. ¬ IsWhole t) (kept_in triangulation.old) }
     ensures status { (result ≡ 0) ⊎ (result ≡ 21) ⊎ ((24 ≤ result) × (result ≤ 25)) }
@@ -55,7 +55,7 @@ pub fn locate_with_hint(
     position: &mut DcelPosition,
 ) -> u32
     ensures done { result ≡ 0 → IsSo (IsPlaceOf point position.new) (kept_in triangulation.old) }
-    ensures none { result ≡ 21 → kept_in triangulation.old ≡ None }
+    ensures none { (result ≡ 21) ↔ (kept_in triangulation.old ≡ None) }
     ensures out_of_range { result ≡ 24 → IsFar point }
     ensures unfinished { result ≡ 25 → IsSo (λ t. ¬ IsWhole t) (kept_in triangulation.old) }
     ensures status { (result ≡ 0) ⊎ (result ≡ 21) ⊎ ((24 ≤ result) × (result ≤ 25)) }
@@ -80,8 +80,8 @@ pub fn locate_with_hint(
 /// Tells where each point is, as [`locate`] does, and puts it into the buffer, in the order of the
 /// points. What lies behind them there stays.
 ///
-/// It looks for them in an order of its own, in which walks are short. If a coordinate is out of
-/// range, its row is told.
+/// It looks for them in an order of its own, in which walks are short. If coordinates are out
+/// of range, the first row that has one is told.
 pub fn locate_all(
     alloc: Global,
     triangulation: &mut DcelTriangulation,
@@ -91,9 +91,9 @@ pub fn locate_all(
 ) -> u32
     ensures done { result ≡ 0 → IsSo (LocatesAll points.now positions.old positions.new) (kept_in triangulation.old) }
     ensures fits { result ≡ 0 → length points.now ≤ length positions.old }
-    ensures none { result ≡ 21 → kept_in triangulation.old ≡ None }
+    ensures none { (result ≡ 21) ↔ (kept_in triangulation.old ≡ None) }
     ensures short { result ≡ 22 → length positions.old < length points.now }
-    ensures out_of_range { result ≡ 24 → IsFarIn points.now row.new }
+    ensures out_of_range { result ≡ 24 → IsFirstFar points.now row.new }
     ensures unfinished { result ≡ 25 → IsSo (λ t. ¬ IsWhole t) (kept_in triangulation.old) }
     ensures status { (result ≡ 0) ⊎ ((20 ≤ result) × (result ≤ 25) × (result ≢ 23)) }
     ensures untold { result ≢ 0 → positions.new ≡ positions.old }

@@ -1,9 +1,9 @@
 //! The vertices nearest to points, to one or to many at once.
 
-ghost use Rattle.std.specs.Prelude.{◌≡◌, ◌≢◌, ◌≤◌, ◌<◌, ◌⊎◌, None, length, map};
+ghost use Rattle.std.specs.Prelude.{◌≡◌, ◌≢◌, ◌↔◌, ◌≤◌, ◌<◌, ◌⊎◌, None, length, map};
 ghost use Rattle.dcel_exports.specs.Answers.{filled};
 ghost use Rattle.dcel_triangulations.specs.Calls.{IsSo, IsWhole, kept_in};
-ghost use Rattle.dcel_triangulations.specs.Points.{IsFar, IsFarIn};
+ghost use Rattle.dcel_triangulations.specs.Points.{IsFar, IsFirstFar};
 ghost use Rattle.dcel_triangulations.specs.Positions.{FindsAllNearest, IsNearestTo, vertex_told};
 
 use crate::points::{DcelPoint, point_of, read_points};
@@ -18,7 +18,7 @@ use std::alloc::Global;
 /// If the triangulation isn't whole, the status is UNFINISHED.
 pub fn nearest(triangulation: &mut DcelTriangulation, point: DcelPoint, vertex: &mut u32) -> u32
     ensures done { result ≡ 0 → IsSo (IsNearestTo point vertex.new) (kept_in triangulation.old) }
-    ensures none { result ≡ 21 → kept_in triangulation.old ≡ None }
+    ensures none { (result ≡ 21) ↔ (kept_in triangulation.old ≡ None) }
     ensures out_of_range { result ≡ 24 → IsFar point }
     ensures unfinished { result ≡ 25 → IsSo (λ t. ¬ IsWhole t) (kept_in triangulation.old) }
     ensures status { (result ≡ 0) ⊎ (result ≡ 21) ⊎ ((24 ≤ result) × (result ≤ 25)) }
@@ -42,8 +42,8 @@ pub fn nearest(triangulation: &mut DcelTriangulation, point: DcelPoint, vertex: 
 /// Puts for each point a vertex that no other one is nearer to it than into the buffer, in the order
 /// of the points, or 2^32 - 1 if there is no vertex. What lies behind them there stays.
 ///
-/// It looks for them in an order of its own, in which walks are short. If a coordinate is out of
-/// range, its row is told.
+/// It looks for them in an order of its own, in which walks are short. If coordinates are out
+/// of range, the first row that has one is told.
 pub fn nearest_all(
     alloc: Global,
     triangulation: &mut DcelTriangulation,
@@ -53,9 +53,9 @@ pub fn nearest_all(
 ) -> u32
     ensures done { result ≡ 0 → IsSo (FindsAllNearest points.now vertices.old vertices.new) (kept_in triangulation.old) }
     ensures fits { result ≡ 0 → length points.now ≤ length vertices.old }
-    ensures none { result ≡ 21 → kept_in triangulation.old ≡ None }
+    ensures none { (result ≡ 21) ↔ (kept_in triangulation.old ≡ None) }
     ensures short { result ≡ 22 → length vertices.old < length points.now }
-    ensures out_of_range { result ≡ 24 → IsFarIn points.now row.new }
+    ensures out_of_range { result ≡ 24 → IsFirstFar points.now row.new }
     ensures unfinished { result ≡ 25 → IsSo (λ t. ¬ IsWhole t) (kept_in triangulation.old) }
     ensures status { (result ≡ 0) ⊎ ((20 ≤ result) × (result ≤ 25) × (result ≢ 23)) }
     ensures untold { result ≢ 0 → vertices.new ≡ vertices.old }

@@ -1,7 +1,7 @@
 //! Points, as C gives them.
 
 ghost use Rattle.std.specs.Prelude.{◌≡◌, ◌≢◌, ◌⊎◌, IfErr, IfNone, IfOk, IfSome, OnOk};
-ghost use Rattle.dcel_triangulations.specs.Points.{AreRead, IsAt, IsFar, IsFarIn};
+ghost use Rattle.dcel_triangulations.specs.Points.{AreRead, IsAt, IsFar, IsFirstFar};
 
 use crate::status::{OUT_OF_MEMORY, OUT_OF_RANGE};
 use dcel_delaunay::Point;
@@ -20,20 +20,21 @@ pub struct DcelPoint {
 /// Returns the point with the same coordinates, or `None` if one is out of range.
 pub(crate) fn point_of(given: DcelPoint) -> Option<Point>
     ensures at { IfSome result (IsAt given) }
+    ensures near { IfSome result (λ _. ¬ IsFar given) }
     ensures far { IfNone result (IsFar given) }
 {
     Point::new(given.x, given.y)
 }
 
 /// Reads the points. Returns the status that says why not: there is no memory, or the point in the
-/// row that is told has a coordinate out of range.
+/// row that is told is the first that has a coordinate out of range.
 pub(crate) fn read_points(
     alloc: Global,
     given: &[DcelPoint],
     row: &mut u64,
 ) -> Result<Vec<Point, Global>, u32>
     ensures read { IfOk result (λ points. AreRead given.now points.items) }
-    ensures far { IfErr result (λ status. status ≡ 24 → IsFarIn given.now row.new) }
+    ensures far { IfErr result (λ status. status ≡ 24 → IsFirstFar given.now row.new) }
     ensures status { IfErr result (λ status. (status ≡ 20) ⊎ (status ≡ 24)) }
     ensures untold { OnOk result (row.new ≡ row.old) }
     ensures in_range { IfErr result (λ status. status ≢ 24 → row.new ≡ row.old) }

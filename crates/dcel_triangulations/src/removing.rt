@@ -38,7 +38,7 @@ pub fn remove(triangulation: &mut DcelTriangulation, vertex: u32, moved: &mut u6
 
 /// Returns the old number of the vertex that has the removed one's number now, or
 /// [`NONE`](crate::status::NONE).
-fn tell(removed: &Removed) -> u64
+pub(crate) fn tell(removed: &Removed) -> u64
     ensures { result ≡ moved_told removed.now }
 {
     match removed.moved {
@@ -48,7 +48,7 @@ fn tell(removed: &Removed) -> u64
 }
 
 /// Returns what is told if the vertex is gone all the same, and what was there before if it isn't.
-fn tell_after(error: &RemovalError, before: u64) -> u64
+pub(crate) fn tell_after(error: &RemovalError, before: u64) -> u64
     ensures { result ≡ moved_after error.now before }
 {
     match error {

@@ -29,6 +29,9 @@ pub const OUT_OF_RANGE: u32 = 24;
 /// The triangulation isn't whole: there was no memory to flip all edges that have to be.
 pub const UNFINISHED: u32 = 25;
 
+/// A segment would cross a constraint.
+pub const CROSSES: u32 = 26;
+
 /// What answers a call for an element's number where there is none. No element has it.
 pub const NONE: u64 = u64::MAX;
 

@@ -2,7 +2,7 @@
 
 ghost use Rattle.std.specs.Prelude.{◌≡◌, ◌≢◌, ◌⊎◌, IfErr, IfOk, OnOk, length};
 ghost use Rattle.dcel_exports.specs.Answers.{HasAnswer};
-ghost use Rattle.dcel_triangulations.specs.Points.{IsFarIn};
+ghost use Rattle.dcel_triangulations.specs.Points.{IsFirstFar};
 ghost use Rattle.dcel_triangulations.specs.Statuses.{buffer_status};
 ghost use Rattle.dcel_triangulations.specs.Triangulating.{AreTrianglesOf};
 
@@ -17,9 +17,9 @@ use std::alloc::Global;
 /// if all points are on one line.
 ///
 /// As many as fit are put there, from the front, and what lies behind them stays. `needed` is how
-/// many there are. If a coordinate is out of range, its row is told; if there is no memory, or there
-/// are too many points for a mesh, the status is OUT_OF_MEMORY. Then the buffer stays, and `needed`
-/// is 0.
+/// many there are. If coordinates are out of range, the first row that has one is told; if there is no
+/// memory, or there are too many points for a mesh, the status is OUT_OF_MEMORY. Then the buffer
+/// stays, and `needed` is 0.
 pub fn triangulate(
     alloc: Global,
     points: &[DcelPoint],
@@ -30,7 +30,7 @@ pub fn triangulate(
     ensures triangles { result ≢ 20 → result ≢ 24 → HasAnswer (AreTrianglesOf points.now) triangles.old triangles.new needed.new }
     ensures status { result ≢ 20 → result ≢ 24 → result ≡ buffer_status needed.new (length triangles.old) }
     ensures refused { (result ≡ 20) ⊎ (result ≡ 24) → (triangles.new ≡ triangles.old) × (needed.new ≡ 0) }
-    ensures out_of_range { result ≡ 24 → IsFarIn points.now row.new }
+    ensures out_of_range { result ≡ 24 → IsFirstFar points.now row.new }
     ensures in_range { result ≢ 24 → row.new ≡ row.old }
 {
     match triangles_of(alloc, points, row) {
@@ -52,7 +52,7 @@ fn triangles_of(
     row: &mut u64,
 ) -> Result<Vec<Triangle, Global>, u32>
     ensures triangles { IfOk result (λ list. AreTrianglesOf given.now list.items) }
-    ensures far { IfErr result (λ status. status ≡ 24 → IsFarIn given.now row.new) }
+    ensures far { IfErr result (λ status. status ≡ 24 → IsFirstFar given.now row.new) }
     ensures status { IfErr result (λ status. (status ≡ 20) ⊎ (status ≡ 24)) }
     ensures untold { OnOk result (row.new ≡ row.old) }
     ensures in_range { IfErr result (λ status. status ≢ 24 → row.new ≡ row.old) }

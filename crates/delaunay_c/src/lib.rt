@@ -3,12 +3,25 @@
 //! Start with the header, `bindings/c/dcel.h`. Together with `dcel_c` it becomes `libdcel`.
 #![tactic(auto)]
 
+mod constrained;
 mod lists;
 mod places;
 mod points;
 mod triangles;
 mod whole;
 
+pub use constrained::{
+    dcel_constrained_add_constraint, dcel_constrained_add_constraints, dcel_constrained_bulk_load,
+    dcel_constrained_can_add_constraint, dcel_constrained_clone, dcel_constrained_constraints,
+    dcel_constrained_directed_edges, dcel_constrained_edges, dcel_constrained_exists_constraint,
+    dcel_constrained_finish, dcel_constrained_free, dcel_constrained_from_triangulation,
+    dcel_constrained_hull, dcel_constrained_insert, dcel_constrained_insert_all,
+    dcel_constrained_is_constraint, dcel_constrained_is_whole, dcel_constrained_locate,
+    dcel_constrained_neighbors, dcel_constrained_new, dcel_constrained_num_constraints,
+    dcel_constrained_num_edges, dcel_constrained_num_triangles, dcel_constrained_num_vertices,
+    dcel_constrained_points, dcel_constrained_regions, dcel_constrained_remove,
+    dcel_constrained_remove_constraint, dcel_constrained_triangles,
+};
 pub use lists::{
     dcel_triangulation_directed_edges, dcel_triangulation_edges, dcel_triangulation_hull,
     dcel_triangulation_neighbors, dcel_triangulation_points, dcel_triangulation_triangles,

@@ -1,6 +1,6 @@
 //! What a triangulation has, as lists by number, in buffers.
 
-ghost use Rattle.std.specs.Prelude.{◌≡◌, ◌≢◌, ◌⊎◌, None};
+ghost use Rattle.std.specs.Prelude.{◌≡◌, ◌≢◌, ◌↔◌, ◌⊎◌, None};
 ghost use Rattle.dcel_triangulations.specs.Calls.{IsSo, IsWhole, kept_in};
 ghost use Rattle.dcel_triangulations.specs.Lists.{IsPut, ListsDelaunayTriangles, edges_of, half_edges_of, hull_of, neighbors_of, points_of, triangles_of};
 
@@ -19,7 +19,7 @@ pub extern "C" fn dcel_triangulation_points(
 ) -> u32
     ensures points { result ≢ 20 → result ≢ 21 → IsSo (λ t. IsPut (points_of t) points.old points.new needed.new result) (kept_in triangulation.old) }
     ensures refused { (result ≡ 20) ⊎ (result ≡ 21) → (points.new ≡ points.old) × (needed.new ≡ 0) }
-    ensures none { result ≡ 21 → kept_in triangulation.old ≡ None }
+    ensures none { (result ≡ 21) ↔ (kept_in triangulation.old ≡ None) }
     ensures same { kept_in triangulation.new ≡ kept_in triangulation.old }
 {
     dcel_triangulations::list_points(alloc, triangulation, points, needed)
@@ -38,7 +38,7 @@ pub extern "C" fn dcel_triangulation_triangles(
     ensures triangles { result ≢ 20 → result ≢ 21 → IsSo (λ t. IsPut (triangles_of t) triangles.old triangles.new needed.new result) (kept_in triangulation.old) }
     ensures delaunay { result ≢ 20 → result ≢ 21 → IsSo (λ t. IsWhole t → ListsDelaunayTriangles t) (kept_in triangulation.old) }
     ensures refused { (result ≡ 20) ⊎ (result ≡ 21) → (triangles.new ≡ triangles.old) × (needed.new ≡ 0) }
-    ensures none { result ≡ 21 → kept_in triangulation.old ≡ None }
+    ensures none { (result ≡ 21) ↔ (kept_in triangulation.old ≡ None) }
     ensures same { kept_in triangulation.new ≡ kept_in triangulation.old }
 {
     dcel_triangulations::list_triangles(alloc, triangulation, triangles, needed)
@@ -55,7 +55,7 @@ pub extern "C" fn dcel_triangulation_neighbors(
 ) -> u32
     ensures neighbors { result ≢ 20 → result ≢ 21 → IsSo (λ t. IsPut (neighbors_of t) across.old across.new needed.new result) (kept_in triangulation.old) }
     ensures refused { (result ≡ 20) ⊎ (result ≡ 21) → (across.new ≡ across.old) × (needed.new ≡ 0) }
-    ensures none { result ≡ 21 → kept_in triangulation.old ≡ None }
+    ensures none { (result ≡ 21) ↔ (kept_in triangulation.old ≡ None) }
     ensures same { kept_in triangulation.new ≡ kept_in triangulation.old }
 {
     dcel_triangulations::list_neighbors(alloc, triangulation, across, needed)
@@ -71,7 +71,7 @@ pub extern "C" fn dcel_triangulation_edges(
 ) -> u32
     ensures edges { result ≢ 20 → result ≢ 21 → IsSo (λ t. IsPut (edges_of t) edges.old edges.new needed.new result) (kept_in triangulation.old) }
     ensures refused { (result ≡ 20) ⊎ (result ≡ 21) → (edges.new ≡ edges.old) × (needed.new ≡ 0) }
-    ensures none { result ≡ 21 → kept_in triangulation.old ≡ None }
+    ensures none { (result ≡ 21) ↔ (kept_in triangulation.old ≡ None) }
     ensures same { kept_in triangulation.new ≡ kept_in triangulation.old }
 {
     dcel_triangulations::list_edges(alloc, triangulation, edges, needed)
@@ -90,7 +90,7 @@ pub extern "C" fn dcel_triangulation_hull(
 ) -> u32
     ensures hull { result ≢ 20 → result ≢ 21 → IsSo (λ t. IsPut (hull_of t) vertices.old vertices.new needed.new result) (kept_in triangulation.old) }
     ensures refused { (result ≡ 20) ⊎ (result ≡ 21) → (vertices.new ≡ vertices.old) × (needed.new ≡ 0) }
-    ensures none { result ≡ 21 → kept_in triangulation.old ≡ None }
+    ensures none { (result ≡ 21) ↔ (kept_in triangulation.old ≡ None) }
     ensures same { kept_in triangulation.new ≡ kept_in triangulation.old }
 {
     dcel_triangulations::list_hull(alloc, triangulation, vertices, needed)

@@ -1,8 +1,8 @@
 //! Where points are, and the vertices nearest to them.
 
-ghost use Rattle.std.specs.Prelude.{◌<◌, ◌≡◌, ◌≢◌, ◌≤◌, ◌⊎◌, None, length};
+ghost use Rattle.std.specs.Prelude.{◌<◌, ◌≡◌, ◌≢◌, ◌↔◌, ◌≤◌, ◌⊎◌, None, length};
 ghost use Rattle.dcel_triangulations.specs.Calls.{IsSo, IsWhole, kept_in};
-ghost use Rattle.dcel_triangulations.specs.Points.{IsFar, IsFarIn};
+ghost use Rattle.dcel_triangulations.specs.Points.{IsFar, IsFirstFar};
 ghost use Rattle.dcel_triangulations.specs.Positions.{FindsAllNearest, IsNearestTo, IsPlaceOf, LocatesAll};
 
 use dcel_triangulations::{DcelPoint, DcelPosition, DcelTriangulation};
@@ -18,7 +18,7 @@ pub extern "C" fn dcel_triangulation_locate(
     position: &mut DcelPosition,
 ) -> u32
     ensures done { result ≡ 0 → IsSo (IsPlaceOf point position.new) (kept_in triangulation.old) }
-    ensures none { result ≡ 21 → kept_in triangulation.old ≡ None }
+    ensures none { (result ≡ 21) ↔ (kept_in triangulation.old ≡ None) }
     ensures out_of_range { result ≡ 24 → IsFar point }
     ensures unfinished { result ≡ 25 → IsSo (λ t. ¬ IsWhole t) (kept_in triangulation.old) }
     ensures status { (result ≡ 0) ⊎ (result ≡ 21) ⊎ ((24 ≤ result) × (result ≤ 25)) }
@@ -40,7 +40,7 @@ pub extern "C" fn dcel_triangulation_locate_with_hint(
     position: &mut DcelPosition,
 ) -> u32
     ensures done { result ≡ 0 → IsSo (IsPlaceOf point position.new) (kept_in triangulation.old) }
-    ensures none { result ≡ 21 → kept_in triangulation.old ≡ None }
+    ensures none { (result ≡ 21) ↔ (kept_in triangulation.old ≡ None) }
     ensures out_of_range { result ≡ 24 → IsFar point }
     ensures unfinished { result ≡ 25 → IsSo (λ t. ¬ IsWhole t) (kept_in triangulation.old) }
     ensures status { (result ≡ 0) ⊎ (result ≡ 21) ⊎ ((24 ≤ result) × (result ≤ 25)) }
@@ -53,8 +53,8 @@ pub extern "C" fn dcel_triangulation_locate_with_hint(
 /// Tells where each point is, as [`dcel_triangulation_locate`] does, and puts it into the buffer, in the order of the
 /// points. What lies behind them there stays.
 ///
-/// It looks for them in an order of its own, in which walks are short. If a coordinate is out of
-/// range, its row is told.
+/// It looks for them in an order of its own, in which walks are short. If coordinates are out
+/// of range, the first row that has one is told.
 #[unsafe(no_mangle)]
 pub extern "C" fn dcel_triangulation_locate_all(
     alloc: Global,
@@ -65,9 +65,9 @@ pub extern "C" fn dcel_triangulation_locate_all(
 ) -> u32
     ensures done { result ≡ 0 → IsSo (LocatesAll points.now positions.old positions.new) (kept_in triangulation.old) }
     ensures fits { result ≡ 0 → length points.now ≤ length positions.old }
-    ensures none { result ≡ 21 → kept_in triangulation.old ≡ None }
+    ensures none { (result ≡ 21) ↔ (kept_in triangulation.old ≡ None) }
     ensures short { result ≡ 22 → length positions.old < length points.now }
-    ensures out_of_range { result ≡ 24 → IsFarIn points.now row.new }
+    ensures out_of_range { result ≡ 24 → IsFirstFar points.now row.new }
     ensures unfinished { result ≡ 25 → IsSo (λ t. ¬ IsWhole t) (kept_in triangulation.old) }
     ensures status { (result ≡ 0) ⊎ ((20 ≤ result) × (result ≤ 25) × (result ≢ 23)) }
     ensures untold { result ≢ 0 → positions.new ≡ positions.old }
@@ -87,7 +87,7 @@ pub extern "C" fn dcel_triangulation_nearest(
     vertex: &mut u32,
 ) -> u32
     ensures done { result ≡ 0 → IsSo (IsNearestTo point vertex.new) (kept_in triangulation.old) }
-    ensures none { result ≡ 21 → kept_in triangulation.old ≡ None }
+    ensures none { (result ≡ 21) ↔ (kept_in triangulation.old ≡ None) }
     ensures out_of_range { result ≡ 24 → IsFar point }
     ensures unfinished { result ≡ 25 → IsSo (λ t. ¬ IsWhole t) (kept_in triangulation.old) }
     ensures status { (result ≡ 0) ⊎ (result ≡ 21) ⊎ ((24 ≤ result) × (result ≤ 25)) }
@@ -100,8 +100,8 @@ pub extern "C" fn dcel_triangulation_nearest(
 /// Puts for each point a vertex that no other one is nearer to it than into the buffer, in the order
 /// of the points, or 2^32 - 1 if there is no vertex. What lies behind them there stays.
 ///
-/// It looks for them in an order of its own, in which walks are short. If a coordinate is out of
-/// range, its row is told.
+/// It looks for them in an order of its own, in which walks are short. If coordinates are out
+/// of range, the first row that has one is told.
 #[unsafe(no_mangle)]
 pub extern "C" fn dcel_triangulation_nearest_all(
     alloc: Global,
@@ -112,9 +112,9 @@ pub extern "C" fn dcel_triangulation_nearest_all(
 ) -> u32
     ensures done { result ≡ 0 → IsSo (FindsAllNearest points.now vertices.old vertices.new) (kept_in triangulation.old) }
     ensures fits { result ≡ 0 → length points.now ≤ length vertices.old }
-    ensures none { result ≡ 21 → kept_in triangulation.old ≡ None }
+    ensures none { (result ≡ 21) ↔ (kept_in triangulation.old ≡ None) }
     ensures short { result ≡ 22 → length vertices.old < length points.now }
-    ensures out_of_range { result ≡ 24 → IsFarIn points.now row.new }
+    ensures out_of_range { result ≡ 24 → IsFirstFar points.now row.new }
     ensures unfinished { result ≡ 25 → IsSo (λ t. ¬ IsWhole t) (kept_in triangulation.old) }
     ensures status { (result ≡ 0) ⊎ ((20 ≤ result) × (result ≤ 25) × (result ≢ 23)) }
     ensures untold { result ≢ 0 → vertices.new ≡ vertices.old }

@@ -2,7 +2,7 @@
 
 ghost use Rattle.std.specs.Prelude.{◌≡◌, ◌≢◌, ◌⊎◌, length};
 ghost use Rattle.dcel_exports.specs.Answers.{HasAnswer};
-ghost use Rattle.dcel_triangulations.specs.Points.{IsFarIn};
+ghost use Rattle.dcel_triangulations.specs.Points.{IsFirstFar};
 ghost use Rattle.dcel_triangulations.specs.Statuses.{buffer_status};
 ghost use Rattle.dcel_triangulations.specs.Triangulating.{AreTrianglesOf};
 
@@ -15,9 +15,9 @@ use std::alloc::Global;
 /// if all points are on one line.
 ///
 /// As many as fit are put there, from the front, and what lies behind them stays. `needed` is how
-/// many there are. If a coordinate is out of range, its row is told; if there is no memory, or there
-/// are too many points for a mesh, the status is OUT_OF_MEMORY. Then the buffer stays, and `needed`
-/// is 0.
+/// many there are. If coordinates are out of range, the first row that has one is told; if there is no
+/// memory, or there are too many points for a mesh, the status is OUT_OF_MEMORY. Then the buffer
+/// stays, and `needed` is 0.
 #[unsafe(no_mangle)]
 pub extern "C" fn dcel_triangulate(
     alloc: Global,
@@ -29,7 +29,7 @@ pub extern "C" fn dcel_triangulate(
     ensures triangles { result ≢ 20 → result ≢ 24 → HasAnswer (AreTrianglesOf points.now) triangles.old triangles.new needed.new }
     ensures status { result ≢ 20 → result ≢ 24 → result ≡ buffer_status needed.new (length triangles.old) }
     ensures refused { (result ≡ 20) ⊎ (result ≡ 24) → (triangles.new ≡ triangles.old) × (needed.new ≡ 0) }
-    ensures out_of_range { result ≡ 24 → IsFarIn points.now row.new }
+    ensures out_of_range { result ≡ 24 → IsFirstFar points.now row.new }
     ensures in_range { result ≢ 24 → row.new ≡ row.old }
 {
     dcel_triangulations::triangulate(alloc, points, triangles, needed, row)

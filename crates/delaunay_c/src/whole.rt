@@ -37,7 +37,7 @@ pub extern "C" fn dcel_triangulation_clone(
 ) -> u32
     ensures done { result ≡ 0 → AreSo IsCopy (kept_in from.old) (kept_in to.new) }
     ensures refused { result ≢ 0 → kept_in to.new ≡ kept_in to.old }
-    ensures none { result ≡ 21 → kept_in from.old ≡ None }
+    ensures none { (result ≡ 21) ↔ (kept_in from.old ≡ None) }
     ensures status { (result ≡ 0) ⊎ ((20 ≤ result) × (result ≤ 21)) }
     ensures same { kept_in from.new ≡ kept_in from.old }
 {

@@ -30,6 +30,7 @@ FROM_BELOW = {
     "mesh_page": {"Memory": ("lent_bump", "mesh_page_memory"), "Triangle": ("dcel_delaunay", "mesh_page_triangle")},
     "delaunay_c": {
         "DcelTriangulation": ("dcel_triangulations", "dcel_triangulation"),
+        "DcelConstrained": ("dcel_triangulations", "dcel_constrained"),
         "DcelPoint": ("dcel_triangulations", "dcel_point"),
         "DcelPosition": ("dcel_triangulations", "dcel_position"),
         "DcelAcross": ("dcel_triangulations", "dcel_across"),
@@ -41,11 +42,11 @@ FROM_BELOW = {
 TYPES = {"u8": "uint8_t", "i32": "int32_t", "i64": "int64_t", "u32": "uint32_t", "u64": "uint64_t", "usize": "size_t"}
 TYPES |= {"f64": "double", "bool": "bool", "": "void"}
 EXPORT = re.compile(r'#\[unsafe\(no_mangle\)\]\s*(?:#\[[^\n]*\]\s*)?pub extern "C" fn (\w+)\(([^)]*?)\)(?: -> (\w+))?(?: \{|\n(.*?)^\{)', re.S | re.M)
-SAME = re.compile(r"ensures same \{ kept_in (\w+)\.new ≡ kept_in \1\.old \}")
+SAME = re.compile(r"ensures same \{ (?:\w+\.)?kept_in (\w+)\.new ≡ (?:\w+\.)?kept_in \1\.old \}")
 STRUCT = re.compile(r"#\[repr\(C\)\][^{;]*?pub struct (\w+) \{(.*?)\n\}", re.S)
 FIELD = re.compile(r"^\s*(?:pub(?:\(crate\))? )?(\w+): ([^,]+),", re.M)
 # What C sees of a struct that owns what is kept: the pointer of `Held`, whose allocator takes no bytes, and the flag.
-KEPT = ("DcelMesh", "DcelTriangulation")
+KEPT = ("DcelMesh", "DcelTriangulation", "DcelConstrained")
 HELD = (Named("at", Type("void", True)), Named("is_open", Type("bool")))
 
 

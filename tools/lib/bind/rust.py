@@ -10,7 +10,7 @@ WIDTH = 100
 TYPES = {"bool": "bool", "size_t": "usize", "uint8_t": "u8", "uint32_t": "u32", "uint64_t": "u64", "int32_t": "i32", "int64_t": "i64"}
 TYPES |= {"double": "f64", "void": "c_void"}
 # What is kept across calls, and the type that owns it.
-KEPT = {"dcel_mesh": "Mesh", "dcel_triangulation": "Triangulation"}
+KEPT = {"dcel_mesh": "Mesh", "dcel_triangulation": "Triangulation", "dcel_constrained": "Constrained"}
 # That whose calls are made methods. Those of a triangulation are written by hand, as their statuses aren't all refusals of the crate.
 CALLED = "dcel_mesh"
 # What the crate does without: a mesh has what these lists have. Nothing of it is declared.
@@ -29,6 +29,7 @@ HANDLES = {
 # What the crate does without: it walks by steps, and asks for no version but by the name that only one has.
 LEFT_OUT = {"dcel_version", "dcel_rev", "dcel_out_edges", "dcel_face_edges", "dcel_directed_edge", "dcel_replies"}
 LEFT_OUT |= {f"dcel_triangulation_{it}" for it in ("points", "hull", "locate_all", "nearest_all")}
+LEFT_OUT |= {"dcel_constrained_points", "dcel_constrained_hull"}
 # What ffi.rs calls itself: how a mesh is made and ends.
 LIVES = {"dcel_new", "dcel_free", "dcel_clone"}
 

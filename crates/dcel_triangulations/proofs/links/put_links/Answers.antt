@@ -11,13 +11,13 @@ length-told : (s : Shape) → length (links_told s) ≡ 2 * s.edges
 length-told s = omega (arith, length-map (numbers_between 0 (2 * s.edges)) (links_of s), length-numbers 0 (2 * s.edges))
 
 pub returns-then-half_edges-count : goal.returns-then-half_edges-count
-returns-then-half_edges-count c =
+returns-then-half_edges-count g c =
     let s = c.args.dcel.now.shape in
     let short = c.if-half_edges-count.true in
     put_none (links_told s) c.args.half_edges.now c.num_directed_edges-count.result (c.num_directed_edges-count.ensures.count ∙ sym (length-told s)) (omega (arith, short))
 
 pub loop-number-preserved : goal.loop-number-preserved
-loop-number-preserved c =
+loop-number-preserved g c =
     let s = c.args.dcel.now.shape in
     let k = c.loop-number.number in
     let test = c.loop-number-test.true in
@@ -32,7 +32,7 @@ loop-number-preserved c =
     }
 
 pub returns : goal.returns
-returns c =
+returns g c =
     let s = c.args.dcel.now.shape in
     let fits = c.if-half_edges-count.false in
     let test = c.loop-number-test.false in

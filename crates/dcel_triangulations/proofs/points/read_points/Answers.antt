@@ -1,8 +1,9 @@
 use Rattle.std.proofs.Common.{◌≡◌, ◌<◌, ◌++◌, ◌∷◌, [], length, map, pos, ap, ◌∙◌, arith}
 use Rattle.std.proofs.lemmas.Option.{slice_get-get_or}
+use Rattle.dcel_triangulations.specs.Points.{IsFar}
 use Rattle.dcel_predicates.specs.declared.point.Point.{Point}
 use Rattle.dcel_triangulations.specs.declared.points.DcelPoint.{DcelPoint}
-use Rattle.dcel_triangulations.proofs.Read.{read_more}
+use Rattle.dcel_triangulations.proofs.Read.{one_more, read_more}
 use Rattle.dcel_triangulations.proofs.points.read_points.Goals as goal
 
 pub loop-at-preserved : goal.loop-at-preserved
@@ -21,5 +22,6 @@ loop-at-preserved c =
         x = ap (map (λ (p : Point). p.x)) items ∙ read_more (λ (p : Point). p.x) (λ (p : DcelPoint). p.x) points given k p _ at c.in-Some.ensures.at.x c.loop-at.invariant.read.x;
         y = ap (map (λ (p : Point). p.y)) items ∙ read_more (λ (p : Point). p.y) (λ (p : DcelPoint). p.y) points given k p _ at c.in-Some.ensures.at.y c.loop-at.invariant.read.y;
       };
+      near = one_more (λ (g : DcelPoint). ¬ IsFar g) given k _ at c.in-Some.ensures.near c.loop-at.invariant.near;
       untold = c.loop-at.invariant.untold;
     }

@@ -1,0 +1,11 @@
+pub mod Adding
+pub mod Calls
+pub mod Freeing
+pub mod Held
+pub mod Inserting
+pub mod Lending
+pub mod Lists
+pub mod Loading
+pub mod Places
+pub mod Removing
+pub mod Wholes
