@@ -1,13 +1,16 @@
 """A half-edge mesh on the sphere, and a Delaunay triangulation of points, over a library in which every call is proved.
 
-`Dcel` is the mesh, `Delaunay` the triangulation, and `replies` answers lines. Each way in which a call can be refused is an error of its own, under `DcelError`."""
+`Dcel` is the mesh, `Delaunay` the triangulation, and `ConstrainedDelaunay` one with edges that stay; `triangulate_polygon` makes triangles
+of a polygon, and `replies` answers lines. Each way in which a call can be refused is an error of its own, under `DcelError`."""
 
+from ._constrained import ConstrainedDelaunay
 from ._declared import NO_LINK, Ended, FaultKind, Place, RemovalState, Status
 from ._declared import VERSION as __version__
 from ._delaunay import Delaunay
 from ._errors import (
     BadRing,
     BadStrip,
+    Crosses,
     DcelError,
     EdgesStand,
     Fault,
@@ -38,10 +41,12 @@ from ._errors import (
 from ._grid import Grid
 from ._lines import replies
 from ._mesh import Dcel, HalfEdge, Legalized, Links, Opened, Removed
+from ._polygon import triangulate_polygon
 
 __all__ = [
-    "NO_LINK", "BadRing", "BadStrip", "Dcel", "DcelError", "Delaunay", "EdgesStand", "Ended", "Fault", "FaultKind", "Faulty", "GivenUp", "Grid", "HalfEdge", "Inexact", "Legalized", "Links", "NoMesh",
-    "NoRemoval", "NoRoom", "NoSuchEdge", "NoSuchFace", "NoSuchVertex", "NotBridge", "NotLineEnd", "NotOuter", "NotPath", "NotTriangle",
-    "Opened", "OutOfMemory", "OutOfRange", "Place", "RemovalOpen", "RemovalState", "Removed", "SameVertex", "Short", "Status", "Unfinished", "VertexInUse", "WouldLoop",
-    "WrongLists", "__version__", "replies",
+    "NO_LINK", "BadRing", "BadStrip", "ConstrainedDelaunay", "Crosses", "Dcel", "DcelError", "Delaunay", "EdgesStand", "Ended", "Fault",
+    "FaultKind", "Faulty", "GivenUp", "Grid", "HalfEdge", "Inexact", "Legalized", "Links", "NoMesh", "NoRemoval", "NoRoom", "NoSuchEdge",
+    "NoSuchFace", "NoSuchVertex", "NotBridge", "NotLineEnd", "NotOuter", "NotPath", "NotTriangle", "Opened", "OutOfMemory", "OutOfRange",
+    "Place", "RemovalOpen", "RemovalState", "Removed", "SameVertex", "Short", "Status", "Unfinished", "VertexInUse", "WouldLoop",
+    "WrongLists", "__version__", "replies", "triangulate_polygon",
 ]

@@ -6,6 +6,7 @@ import ctypes
 import os
 import sys
 from pathlib import Path
+from types import SimpleNamespace
 from typing import Any
 
 from ._declared import FUNCTIONS, VERSION, Status
@@ -47,3 +48,9 @@ def _declare() -> None:
 
 
 _declare()
+
+
+def calls_of(kind: str) -> SimpleNamespace:
+    """The calls on triangulations of a kind: of "triangulation" `insert` is dcel_triangulation_insert."""
+    prefix = f"dcel_{kind}_"
+    return SimpleNamespace(**{name.removeprefix(prefix): getattr(library, name) for name in FUNCTIONS if name.startswith(prefix)})

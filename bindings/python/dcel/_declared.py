@@ -42,6 +42,7 @@ class Status(enum.IntEnum):
     FAULTY = 23  #: no mesh is made of what is given, and a dcel_fault says why
     OUT_OF_RANGE = 24  #: a coordinate is below -2^53 or above 2^53
     UNFINISHED = 25  #: the triangulation isn't whole, as there was no memory to make it so
+    CROSSES = 26  #: a segment would cross a constraint
 
 
 class Ended(enum.IntEnum):
@@ -175,6 +176,12 @@ class Position(Structure):
     _fields_ = [("kind", c_uint32), ("number", c_uint32)]
 
 
+class Constrained(Structure):
+    """A triangulation with constraints, or none: zero bytes are one that isn't open. The fields are the library's."""
+
+    _fields_ = [("at", c_void_p), ("is_open", c_bool)]
+
+
 STRUCTS: dict[str, type[Structure]] = {
     "dcel_mesh": Mesh,
     "dcel_half_edge": HalfEdge,
@@ -188,6 +195,7 @@ STRUCTS: dict[str, type[Structure]] = {
     "dcel_across": Across,
     "dcel_ends": Ends,
     "dcel_position": Position,
+    "dcel_constrained": Constrained,
 }
 
 # What a fault of each kind says.
@@ -219,6 +227,7 @@ FAULTS = {
 
 _bool = POINTER(c_bool)
 _across = POINTER(Across)
+_constrained = POINTER(Constrained)
 _ends = POINTER(Ends)
 _fault = POINTER(Fault)
 _half_edge = POINTER(HalfEdge)
@@ -344,4 +353,33 @@ FUNCTIONS: dict[str, tuple[Any, tuple[Any, ...]]] = {
     "dcel_triangulation_locate_all": (Status, (_triangulation, _point, c_size_t, _position, c_size_t, _uint64)),
     "dcel_triangulation_nearest": (Status, (_triangulation, Point, _uint32)),
     "dcel_triangulation_nearest_all": (Status, (_triangulation, _point, c_size_t, _uint32, c_size_t, _uint64)),
+    "dcel_constrained_new": (Status, (_constrained,)),
+    "dcel_constrained_free": (None, (_constrained,)),
+    "dcel_constrained_clone": (Status, (_constrained, _constrained)),
+    "dcel_constrained_from_triangulation": (Status, (_triangulation, _constrained)),
+    "dcel_constrained_bulk_load": (Status, (_constrained, _point, c_size_t, _ends, c_size_t, _uint32, c_size_t, _uint64)),
+    "dcel_constrained_num_vertices": (c_uint64, (_constrained,)),
+    "dcel_constrained_num_edges": (c_uint64, (_constrained,)),
+    "dcel_constrained_num_triangles": (c_uint64, (_constrained,)),
+    "dcel_constrained_num_constraints": (c_uint64, (_constrained,)),
+    "dcel_constrained_is_whole": (c_bool, (_constrained,)),
+    "dcel_constrained_finish": (Status, (_constrained,)),
+    "dcel_constrained_insert": (Status, (_constrained, Point, _uint32)),
+    "dcel_constrained_insert_all": (Status, (_constrained, _point, c_size_t, _uint32, c_size_t, _uint64)),
+    "dcel_constrained_remove": (Status, (_constrained, c_uint32, _uint64)),
+    "dcel_constrained_locate": (Status, (_constrained, Point, _position)),
+    "dcel_constrained_can_add_constraint": (Status, (_constrained, c_uint32, c_uint32, _bool)),
+    "dcel_constrained_add_constraint": (Status, (_constrained, c_uint32, c_uint32, _bool)),
+    "dcel_constrained_add_constraints": (Status, (_constrained, _ends, c_size_t, _uint64)),
+    "dcel_constrained_remove_constraint": (Status, (_constrained, c_uint32, _bool)),
+    "dcel_constrained_is_constraint": (c_bool, (_constrained, c_uint32)),
+    "dcel_constrained_exists_constraint": (c_bool, (_constrained, c_uint32, c_uint32)),
+    "dcel_constrained_points": (Status, (_constrained, _point, c_size_t, _uint64)),
+    "dcel_constrained_triangles": (Status, (_constrained, _triangle, c_size_t, _uint64)),
+    "dcel_constrained_neighbors": (Status, (_constrained, _across, c_size_t, _uint64)),
+    "dcel_constrained_edges": (Status, (_constrained, _ends, c_size_t, _uint64)),
+    "dcel_constrained_hull": (Status, (_constrained, _uint32, c_size_t, _uint64)),
+    "dcel_constrained_directed_edges": (Status, (_constrained, _half_edge, c_size_t, _uint64)),
+    "dcel_constrained_constraints": (Status, (_constrained, _ends, c_size_t, _uint64)),
+    "dcel_constrained_regions": (Status, (_constrained, _uint32, c_size_t, _uint64)),
 }

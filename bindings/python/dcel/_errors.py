@@ -192,6 +192,14 @@ class Unfinished(DcelError, MemoryError):
     status = Status.UNFINISHED
 
 
+class Crosses(DcelError, ValueError):
+    """A segment would cross a constraint."""
+
+    status = Status.CROSSES
+    row: int  #: of the first such segment among those that were given
+    pair: tuple[int, int]  #: the rows of the points that it joins
+
+
 ERRORS: dict[int, type[DcelError]] = {kind.status: kind for kind in DcelError.__subclasses__() if kind.status is not None}
 
 for _kind in (DcelError, Inexact, *ERRORS.values()):

@@ -9,13 +9,14 @@ from typing import TYPE_CHECKING
 from ._declared import NO_LINK, Place
 
 if TYPE_CHECKING:
-    from ._delaunay import Delaunay
+    from ._triangulation import Triangulation
 
 Steps = tuple[int, int]
 
 
-def nearest_row(made: Delaunay, point: Steps, row: int) -> int:
-    """The row of the point that is nearest, by a walk from any row. Every other point is joined by an edge to a nearer one."""
+def nearest_row(made: Triangulation, point: Steps, row: int) -> int:
+    """The row of the point that is nearest, by a walk from any row: without constraints, or on a line, an edge joins every other point to a
+    nearer one."""
     indptr, indices = made.vertex_neighbor_vertices
     while True:
         around = indices[indptr[row] : indptr[row + 1]].tolist()
@@ -30,7 +31,7 @@ def apart(one: Steps, other: Steps) -> int:
     return (one[0] - other[0]) ** 2 + (one[1] - other[1]) ** 2
 
 
-def far_position(made: Delaunay, point: Steps, near: array[int]) -> array[int]:
+def far_position(made: Triangulation, point: Steps, near: array[int]) -> array[int]:
     """Where a point beyond the grid is, as the library says it, if it says this of the nearest place in range."""
     kind, number = near
     for half in chain([number] if kind == Place.OUTSIDE else [], made._border):
@@ -42,7 +43,7 @@ def far_position(made: Delaunay, point: Steps, near: array[int]) -> array[int]:
     return array("I", [Place.BEYOND_LINE, made._vertices[end]])
 
 
-def is_left(made: Delaunay, half: int, point: Steps) -> bool:
+def is_left(made: Triangulation, half: int, point: Steps) -> bool:
     """Whether a point is strictly on the left of a half edge."""
     edge, end = divmod(half, 2)
     (ax, ay), (bx, by) = (made._steps(made.edges[edge, it]) for it in (end, 1 - end))

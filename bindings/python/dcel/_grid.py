@@ -206,7 +206,7 @@ def each(points: Any, name: str, is_query: bool, is_exact: bool) -> array[float]
     except TypeError:
         pass
     if view is not None:
-        if view.ndim != 2 or view.shape[1] != 2:  # type: ignore[index]
+        if view.nbytes and (view.ndim != 2 or view.shape[1] != 2):  # type: ignore[index]
             raise ValueError(f"{name}: an array of shape (n, 2), and not {view.shape}")
         points = view.tolist()
     flat = array("d")

@@ -3,10 +3,10 @@
 from __future__ import annotations
 
 from array import array
-from collections.abc import Callable, Sequence
+from collections.abc import Callable, Iterable, Sequence
 from typing import Any
 
-from ._arrays import numpy
+from ._arrays import numpy, shaped
 from ._declared import Place
 
 
@@ -163,6 +163,36 @@ def places_of(items: memoryview, value: int) -> array[int]:
     if (found := numpy()) is not None:
         return kept(found.flatnonzero(found.asarray(items) == value))
     return array("i", (place for place, it in enumerate(items) if it == value))
+
+
+def edge_between(ends: array[int], one: int, other: int) -> int:
+    """Which of some edges, by the vertices of their ends, joins two vertices."""
+    if (found := numpy()) is not None:
+        pairs = viewed(ends).reshape(-1, 2)
+        return int(((pairs == (one, other)) | (pairs == (other, one))).all(axis=1).argmax())
+    return next(edge for edge in range(len(ends) // 2) if {ends[2 * edge], ends[2 * edge + 1]} == {one, other})
+
+
+def odd_ones(numbers: Any) -> Any:
+    """For each number whether it is odd: an array of bools."""
+    if numpy() is not None:
+        return numbers % 2 == 1
+    return bools(it % 2 == 1 for it in numbers)
+
+
+def bools(items: Iterable[int]) -> Any:
+    """An array of bools, or without NumPy a memoryview, of numbers that are 0 or 1."""
+    if (found := numpy()) is not None:
+        return found.fromiter(items, bool)
+    flags = bytearray(items)
+    return memoryview(flags).cast("?") if flags else memoryview(flags)
+
+
+def triples_where(triangles: Any, flags: Any) -> Any:
+    """The triangles that have a flag, in rows of three."""
+    if numpy() is not None:
+        return triangles[flags]
+    return shaped(array("i", (it for row, flag in zip(triangles.tolist(), flags.tolist(), strict=True) if flag for it in row)), 3)
 
 
 def triangles_at(positions: array[int], faces: Callable[[], memoryview], of_vertex: Callable[[], Any]) -> Any:

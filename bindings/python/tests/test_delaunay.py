@@ -14,13 +14,11 @@ from array import array
 from collections.abc import Callable
 from decimal import Decimal
 from fractions import Fraction
-from pathlib import Path
 from typing import Any
 from unittest import mock
 
-import dcel
 from dcel import DcelError, Delaunay, Grid, Inexact, NoMesh, OutOfMemory, OutOfRange, Place
-from dcel._calls import library
+from interrupting import interrupted
 
 LIMIT = 2**53
 FIVE = [(0, 0), (4, 0), (0, 3), (5, 5), (2, 2)]
@@ -283,14 +281,14 @@ class Changes(unittest.TestCase):
 
     def test_without_memory(self) -> None:
         """Points that were inserted before memory ran out are taken back, and arrays are of what is left."""
-        made, insert_all = Delaunay([*FIVE, (0, 1), (3, 0)]), library.dcel_triangulation_insert_all
+        made, insert_all = Delaunay([*FIVE, (0, 1), (3, 0)]), Delaunay._calls.insert_all
 
         def inserts_and_fails(*given: Any) -> None:
             insert_all(*given)
             raise OutOfMemory
 
         before = made.simplices
-        with mock.patch.object(library, "dcel_triangulation_insert_all", inserts_and_fails), self.assertRaises(OutOfMemory):
+        with mock.patch.object(Delaunay._calls, "insert_all", inserts_and_fails), self.assertRaises(OutOfMemory):
             made.insert([(1, 1), (2, 1), (3, 2), (1, 1)])
         self.assertIsNot(made.simplices, before)
         self.assertEqual(made.simplices.tolist(), made.copy().simplices.tolist())
@@ -331,29 +329,6 @@ class Changes(unittest.TestCase):
 class Interrupts(unittest.TestCase):
     """A change that is interrupted before any line of the package is made wholly or not at all, or the triangulation is freed."""
 
-    def interrupted(self, call: Callable[[], object], lines: int) -> bool:
-        """Whether a call is interrupted once it has come to so many lines of the package."""
-        folder = str(Path(dcel.__file__).parent)
-
-        def trace(frame: Any, event: str, given: Any) -> Any:
-            nonlocal lines
-            if not frame.f_code.co_filename.startswith(folder) or frame.f_code.co_filename.endswith("_turns.py"):
-                return None
-            lines -= event == "line"
-            if lines < 0:
-                raise KeyboardInterrupt
-            return trace
-
-        before = sys.gettrace()
-        sys.settrace(trace)
-        try:
-            call()
-        except KeyboardInterrupt:
-            return True
-        finally:
-            sys.settrace(before)
-        return False
-
     def check(self, made: Delaunay) -> tuple[int, ...]:
         """Everything in it is of the same points. Returns the rows that are there."""
         points, live = made.points.tolist(), [row for row, it in enumerate(made.vertex_to_simplex) if it >= 0]
@@ -379,7 +354,7 @@ class Interrupts(unittest.TestCase):
             for lines in itertools.count():
                 made = Delaunay([*FIVE, (3, 1), (1, 2)])
                 self.assertEqual((len(made.simplices), len(made.points), len(made.edges)), (8, 7, 14))
-                ended = not self.interrupted(lambda: call(made), lines)  # noqa: B023
+                ended = not interrupted(lambda: call(made), lines)  # noqa: B023
                 with self.subTest(lines=lines):
                     found.add(self.check(made))
                 if ended:
@@ -390,7 +365,7 @@ class Interrupts(unittest.TestCase):
     def test_twice(self) -> None:
         """One that can't be taken back is freed."""
         made = Delaunay(FIVE)
-        with mock.patch.object(Delaunay, "_take_out", side_effect=KeyboardInterrupt), mock.patch("dcel._delaunay.least_rows", side_effect=KeyboardInterrupt):
+        with mock.patch.object(Delaunay, "_take_out", side_effect=KeyboardInterrupt), mock.patch("dcel._triangulation.least_rows", side_effect=KeyboardInterrupt):
             with self.assertRaises(KeyboardInterrupt):
                 made.insert([(1, 1), (3, 1)])
         for call in (lambda: made.simplices, lambda: made.nearest([(0, 0)]), lambda: made.insert([(1, 1)])):

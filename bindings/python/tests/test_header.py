@@ -13,7 +13,7 @@ from pathlib import Path
 from typing import Any
 
 import dcel
-from dcel import Dcel, Delaunay, Ended, FaultKind, Place, RemovalState, Status, _declared, _delaunay, _lines, _mesh
+from dcel import ConstrainedDelaunay, Dcel, Delaunay, Ended, FaultKind, Place, RemovalState, Status, _constrained, _declared, _delaunay, _lines, _mesh, _triangulation
 from dcel._calls import library
 from dcel._errors import ERRORS
 
@@ -21,8 +21,9 @@ FOLDER = Path(__file__).resolve().parents[2] / "c"
 HEADER = (FOLDER / "dcel.h").read_text()
 # The functions that take no mesh and that no method calls.
 VERSIONS = {"dcel_version", f"dcel_version_{dcel.__version__.replace('.', '_')}"}
-# Those of triangulations that do for one point what others do for all, or keep nothing, or list what Delaunay knows.
+# Those of triangulations that do for one what others do for all, or at once what others do, or keep nothing, or list what a class knows.
 SPARED = {"dcel_triangulate", *(f"dcel_triangulation_{it}" for it in ("insert_with_hint", "locate", "locate_with_hint", "nearest", "points"))}
+SPARED |= {f"dcel_constrained_{it}" for it in ("add_constraint", "bulk_load", "from_triangulation", "is_constraint", "points")}
 NAMES = {
     None: "void", ctypes.c_bool: "bool", ctypes.c_uint8: "uint8_t", ctypes.c_uint32: "uint32_t", ctypes.c_uint64: "uint64_t",
     ctypes.c_int64: "int64_t",
@@ -89,16 +90,19 @@ class Header(unittest.TestCase):
 
     def test_none_is_left_out(self) -> None:
         declared = set(_declared.FUNCTIONS) - VERSIONS - SPARED
-        named = set(re.findall(r"library\.(dcel_\w+)", "".join(map(inspect.getsource, (_mesh, _lines, _delaunay)))))
+        named = set(re.findall(r"library\.(dcel_\w+)", "".join(map(inspect.getsource, (_mesh, _lines)))))
+        for kind, module in (("triangulation", _delaunay), ("constrained", _constrained)):
+            sources = inspect.getsource(_triangulation) + inspect.getsource(module)
+            named |= {f"dcel_{kind}_{it}" for it in re.findall(r"\b_calls\.(\w+)", sources)}
         self.assertEqual(named, declared)
         methods = {name.removesuffix("_") for name, _ in inspect.getmembers(Dcel, inspect.isfunction) if not name.startswith("_")}
-        calls = {name.removeprefix("dcel_") for name in declared if not name.startswith("dcel_triangulation_")}
+        calls = {name.removeprefix("dcel_") for name in declared if not name.startswith(("dcel_triangulation_", "dcel_constrained_"))}
         self.assertEqual(methods - calls, {"close", "copy"})
         self.assertEqual(calls - methods, {"new", "free", "clone", "from_links", "from_faces", "replies"})
 
     def test_hints(self) -> None:
         """Each parameter and each result has its type, and the package says so."""
-        for name, it in [each for kind in (Dcel, Delaunay) for each in vars(kind).items() if inspect.isfunction(each[1])]:
+        for name, it in [each for kind in (Dcel, Delaunay, ConstrainedDelaunay, _triangulation.Triangulation) for each in vars(kind).items() if inspect.isfunction(each[1])]:
             with self.subTest(method=name):
                 own = [each for each in inspect.signature(it).parameters.values() if each.name not in ("self", "cls")]
                 self.assertTrue(all(each.annotation is not each.empty for each in own))

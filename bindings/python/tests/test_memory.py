@@ -9,7 +9,7 @@ import unittest
 from collections.abc import Callable
 from typing import Any
 
-from dcel import Dcel, Delaunay, Ended, OutOfMemory, replies
+from dcel import ConstrainedDelaunay, Dcel, Delaunay, Ended, OutOfMemory, replies, triangulate_polygon
 from dcel._calls import library
 from meshes import BORDER, STRIP, line, opened, points, round_, state, triangle
 
@@ -122,6 +122,52 @@ class Memory(unittest.TestCase):
                 return met
             self.assertEqual(made.simplices.tolist(), made.copy().simplices.tolist())
             self.assertEqual((sorted(map(sorted, made.simplices.tolist())), len(made.points)), (wanted, 5))
+        self.fail("it finds no memory, however much there is")
+
+    def test_constrained(self) -> None:
+        """So does each call of one with constraints: they stay as well, but that a segment alone may be laid in part, and an edge be freed."""
+        square, border = [(0, 0), (6, 0), (6, 6), (0, 6), (2, 3), (4, 3)], [(0, 1), (1, 2), (2, 3), (3, 0)]
+        calls: dict[str, Callable[[ConstrainedDelaunay], object]] = {
+            **{f"insert {len(it)} {it[0]}": lambda made, it=it: made.insert(it) for it in ([(3, 0)], [(1, 1), (3, 0), (2, 0.5)], [(9, 9), (1, 1)], [(9, 9)])},
+            **{f"add {len(it)}": lambda made, it=it: made.add(it) for it in ([(0, 2)], [(4, 5), (0, 4), (2, 5)])},
+            **{name: lambda made, name=name: getattr(made, name)() for name in ("copy", "mesh")},
+            **{name: lambda made, name=name: getattr(made, name) for name in ("simplices", "neighbors", "edges", "hull", "constraints", "regions")},
+            "remove_constraint": lambda made: made.remove_constraint(0, 1),
+        }
+        standing = ConstrainedDelaunay(square, border)
+        for name, call in calls.items():
+            with self.subTest(call=name):
+                self.assertGreater(self.sweep_constrained(standing, call, {"add 1": {4, 5}, "remove_constraint": {3, 4}}.get(name, {4})), 0)
+        for make in (lambda: ConstrainedDelaunay(square, border), lambda: triangulate_polygon(square[:4], points=square[4:])):
+            met = 0
+            while self.refused(met, make):
+                met += 1
+            self.assertGreater(met, 5)
+
+    def sweep_constrained(self, standing: ConstrainedDelaunay, call: Callable[[ConstrainedDelaunay], object], constraints: set[int]) -> int:
+        """How often a call is refused, if it is allowed one request more each time. So many constraints may be left."""
+        for met in range(1000):
+            made = standing.copy()
+            if not self.refused(met, lambda: call(made)):  # noqa: B023
+                return met
+            self.assertIn(len(made.constraints), constraints)
+            self.assertEqual((len(made.simplices), len(made.points), made.find_simplex([(7, 7)]).tolist()), (6, 6, [-1]))
+            self.assertEqual((made.simplices.tolist(), made.constraints.tolist()), (made.copy().simplices.tolist(), made.copy().constraints.tolist()))
+        self.fail("it finds no memory, however much there is")
+
+    def test_removal_with_constraints(self) -> None:
+        """Rows that a removal without memory leaves are there, with constraints between them, and the others aren't."""
+        points, segments = [(0, 0), (4, 0), (0, 3), (5, 5), (2, 2), (3, 1), (1, 1)], [(0, 1), (4, 5), (6, 4)]
+        for met in range(1000):
+            made = ConstrainedDelaunay(points, segments)
+            failed = self.refused(met, lambda: made.remove([4, 5]))  # noqa: B023
+            left = [row for row, it in enumerate(made.vertex_to_simplex) if it >= 0]
+            self.assertEqual((made.locate([points[row] for row in left])[1].tolist(), made.is_constraint(0, 1)), (left, True))
+            self.assertLessEqual({*sum(made.constraints.tolist(), [])}, {*left})
+            if not failed:
+                self.assertEqual((left, len(made.constraints)), ([0, 1, 2, 3, 6], 1))
+                return
+            self.assertGreater(len(left), 5)
         self.fail("it finds no memory, however much there is")
 
     def test_removal(self) -> None:

@@ -11,10 +11,13 @@ from pathlib import Path
 from xml.etree import ElementTree
 
 import dcel
+import dcel._constrained
 import dcel._delaunay
 import dcel._grid
 import dcel._lines
 import dcel._mesh
+import dcel._polygon
+import dcel._triangulation
 
 FOLDER = Path(__file__).resolve().parent.parent
 
@@ -27,11 +30,11 @@ class Shown(unittest.TestCase):
         self.assertEqual((failed, tried > 20), (0, True))
 
     def test_module(self) -> None:
-        for name in ("_mesh", "_lines", "_delaunay", "_grid"):
+        for name in ("_mesh", "_lines", "_delaunay", "_constrained", "_polygon", "_grid"):
             failed, tried = doctest.testmod(sys.modules[f"dcel.{name}"])
             self.assertEqual((failed, tried > 0), (0, True))
         self.assertTrue(all(it.__doc__ for it in vars(dcel).values() if isinstance(it, type)))
-        for kind in (dcel.Dcel, dcel.Delaunay, dcel.Grid):
+        for kind in (dcel.Dcel, dcel.Delaunay, dcel.ConstrainedDelaunay, dcel._triangulation.Triangulation, dcel.Grid):
             self.assertTrue(all(it.__doc__ for name, it in vars(kind).items() if not name.startswith("_")))
 
     def test_picture(self) -> None:

@@ -13,7 +13,7 @@ import matplotlib
 matplotlib.use("agg")
 import numpy as np
 import scipy.spatial
-from dcel import Delaunay, Inexact
+from dcel import ConstrainedDelaunay, Delaunay, Inexact, triangulate_polygon
 from matplotlib import pyplot as plt
 
 BOTH = (scipy.spatial.Delaunay, Delaunay)
@@ -164,6 +164,49 @@ class Random(unittest.TestCase):
         self.assertEqual(Delaunay(points).points[1, 1], 1.0)
 
     fine = np.array([[0, 0], [4, 0], [0, 3]])
+
+
+class Segments(unittest.TestCase):
+    """Segments and rings as arrays of NumPy's."""
+
+    points = np.array([[0, 0], [4, 0], [4, 4], [0, 4], [1, 2]])
+    segments = np.array([[0, 1], [1, 2], [2, 3], [3, 0], [0, 2]])
+
+    def test_forms(self) -> None:
+        wanted = set(map(frozenset, self.segments.tolist()))
+        forms = [self.segments.astype(kind) for kind in ("i1", "u1", "i2", "u4", "i8", "u8", ">i4", object)]
+        forms += [np.asfortranarray(self.segments), np.repeat(self.segments, 2, axis=1)[:, ::2], np.ma.masked_array(self.segments)]
+        for given in forms:
+            made = ConstrainedDelaunay(self.points, given)
+            self.assertEqual((set(map(frozenset, made.constraints.tolist())), made.constraints.dtype, made.constraints.shape), (wanted, np.int32, (5, 2)))
+        self.assertEqual((made.regions.dtype, made.regions.shape, made.inside().dtype, made.inside().all()), (np.int32, (4,), bool, True))
+        for none in (np.empty((0, 2)), np.empty(0), np.empty((0, 2), int)):
+            added = made.add(none)
+            self.assertEqual((added.dtype, added.shape, ConstrainedDelaunay(self.points, none).constraints.shape), (bool, (0,), (0, 2)))
+
+    def test_malformed(self) -> None:
+        made = ConstrainedDelaunay(self.points, self.segments)
+        hidden = np.ma.masked_array([[0, 1], [1, 2]], [[0, 0], [0, 1]])
+        cases = [(hidden, ValueError, "row 1 is masked"), (np.array([[0, 1], [1, 9]]), IndexError, "row 1 has 9"), (np.array([[0, 1], [-1, 0]]), IndexError, "row 1 has -1")]
+        cases += [(np.zeros((2, 2), it), TypeError, "row 0 has") for it in (float, bool, complex, "U3", "M8[s]")]
+        cases += [(np.zeros(it, int), ValueError, r"an array of shape \(k, 2\)") for it in ((), (3, 3), (2, 2, 2), (0, 3))]
+        cases += [(np.zeros(4, int), ValueError, "row 0 is no pair")]
+        cases += [(np.array([[0, 1], [2**64 - 1, 0]], "u8"), IndexError, "row 1 has 18446744073709551615"), (np.array([[0, None]]), TypeError, "row 0 has None")]
+        for given, kind, words in cases:
+            with self.subTest(given=given), self.assertRaisesRegex(kind, f"^segments: .*{words}"):
+                made.add(given)
+        self.assertEqual(len(made.constraints), 5)
+
+    def test_polygon(self) -> None:
+        angles = np.linspace(0, 2 * np.pi, 100, endpoint=False)
+        ring = np.stack([np.cos(angles), np.sin(angles)], 1)
+        points, triangles = triangulate_polygon(3 * ring, [ring, ring[::-1] / 2], points=2 * ring)
+        (ax, ay), (bx, by), (cx, cy) = points[triangles].transpose(1, 2, 0)
+        area = ((bx - ax) * (cy - ay) - (by - ay) * (cx - ax)) / 2
+        self.assertTrue((area > 0).all())
+        np.testing.assert_allclose(area.sum(), (9 - 1 + 1 / 4) * 50 * np.sin(np.pi / 50), rtol=1e-12)
+        np.testing.assert_array_equal(points, np.concatenate([3 * ring, ring, ring[::-1] / 2, 2 * ring]))
+        self.assertEqual((triangles.dtype, points.dtype, triangles.flags.writeable, points.flags.writeable), (np.int32, np.float64, True, True))
 
 
 if __name__ == "__main__":
