@@ -1,4 +1,4 @@
-//! Delaunay triangulations of points, with the names of `spade`.
+//! Delaunay triangulations of points, with constraints or without, and with the names of `spade`.
 //!
 //! Coordinates are whole numbers from -2^53 to 2^53, and a triangulation is exactly Delaunay of
 //! them; a [`Grid`] makes whole numbers of floats. Where spade panics there is an error, and a call
@@ -21,24 +21,47 @@
 //! # Ok::<(), Box<dyn std::error::Error>>(())
 //! ```
 //!
-//! A [`DelaunayTriangulation`] dereferences to its mesh, a [`Dcel`], so it has that one's lists,
-//! elements and steps. The mesh is made anew when it is first read after a change, in linear time:
-//! insert much, then walk. Insertions, removals, counts, [`locate`](DelaunayTriangulation::locate),
-//! [`vertex_data`](DelaunayTriangulation::vertex_data) and
+//! A [`Triangulation`] dereferences to its mesh, a [`Dcel`], so it has that one's lists, elements
+//! and steps. The mesh is made anew when it is first read after a change, in linear time: insert
+//! much, then walk. Changes, counts, constraints, [`locate`](Triangulation::locate),
+//! [`vertex_data`](Triangulation::vertex_data) and
 //! [`nearest_vertex`](DelaunayTriangulation::nearest_vertex) don't read it.
+//!
+//! In a [`ConstrainedDelaunayTriangulation`] some edges are constraints, and stay:
+//!
+//! ```
+//! use dcel::delaunay::{ConstrainedDelaunayTriangulation, ConstraintError, Point2};
+//!
+//! let points = [(0, 0), (4, 0), (4, 4), (0, 4), (3, 2)].map(|(x, y)| Point2::new(x, y));
+//! let outline = [[0, 1], [1, 4], [4, 2], [2, 3], [3, 0]];
+//! let mut triangulation =
+//!     ConstrainedDelaunayTriangulation::bulk_load_cdt(points.to_vec(), outline.to_vec())?;
+//! assert_eq!(triangulation.num_constraints(), 5);
+//!
+//! let regions = triangulation.regions();
+//! let inside = triangulation.inner_faces().filter(|face| regions[face.fix().index()] == 1);
+//! assert_eq!(inside.count(), 3);
+//!
+//! let [a, b] = [points[0], Point2::new(5, 2)].map(|point| triangulation.insert(point));
+//! assert_eq!(triangulation.add_constraint(a?, b?), Err(ConstraintError::Crosses));
+//! # Ok::<(), Box<dyn std::error::Error>>(())
+//! ```
 
+mod constrained;
 mod errors;
 mod grid;
+mod kind;
 mod point;
 mod queries;
 
-pub use errors::InsertionError;
+pub use errors::{ConstraintError, InsertionError, LoadError};
 pub use grid::Grid;
+pub use kind::{Constrained, Kind, Unconstrained};
 pub use point::{HasPosition, Point2};
 pub use queries::PositionInTriangulation;
 
 use crate::Dcel;
-use crate::ffi::{Mesh, Triangulation};
+use crate::ffi::{Kept, Mesh, Point};
 use crate::handles::FixedVertexHandle;
 use crate::operations::RemovalResult;
 use crate::refusal::Refusal;
@@ -47,11 +70,22 @@ use std::cell::Cell;
 use std::fmt;
 use std::ops::Deref;
 
-/// The Delaunay triangulation of points, each with a value.
+/// The Delaunay triangulation of points, each with a value. [`Triangulation`] has most methods.
+pub type DelaunayTriangulation<V> = Triangulation<V, Unconstrained>;
+
+/// The Delaunay triangulation of points, each with a value, but for edges that are constraints: no
+/// point that a triangle sees, past no constraint, is inside its circle.
+///
+/// A constraint that a point is inserted on becomes two, and those that end at a vertex are removed
+/// with it. [`Triangulation`] has what both kinds have.
+pub type ConstrainedDelaunayTriangulation<V> = Triangulation<V, Constrained>;
+
+/// A triangulation of either [`Kind`]: a [`DelaunayTriangulation`] or a
+/// [`ConstrainedDelaunayTriangulation`].
 ///
 /// It is `Send`, and not `Sync`, as its mesh.
-pub struct DelaunayTriangulation<V> {
-    kept: Triangulation,
+pub struct Triangulation<V, K: Kind> {
+    kept: K::Kept,
     /// The keys of the values, by vertex.
     keys: Vec<u64>,
     /// The values, and the mesh as it was when it was last read.
@@ -59,7 +93,7 @@ pub struct DelaunayTriangulation<V> {
     is_stale: Cell<bool>,
 }
 
-impl<V: HasPosition> DelaunayTriangulation<V> {
+impl<V: HasPosition, K: Kind> Triangulation<V, K> {
     /// Makes a triangulation of no points. [`Default`] makes one too, and panics without memory.
     ///
     /// # Errors
@@ -75,7 +109,7 @@ impl<V: HasPosition> DelaunayTriangulation<V> {
     /// ```
     pub fn new() -> Result<Self, Refusal> {
         Ok(Self {
-            kept: Triangulation::new()?,
+            kept: K::Kept::new()?,
             keys: Vec::new(),
             dcel: Dcel::new()?,
             is_stale: Cell::new(false),
@@ -97,6 +131,11 @@ impl<V: HasPosition> DelaunayTriangulation<V> {
     /// assert_eq!(refused, InsertionError::OutOfRange);
     /// ```
     pub fn bulk_load(elements: Vec<V>) -> Result<Self, InsertionError> {
+        Ok(Self::load(elements)?.0)
+    }
+
+    /// Makes the triangulation of points. Returns it with the vertex of each.
+    fn load(elements: Vec<V>) -> Result<(Self, Vec<u32>), InsertionError> {
         let mut made = Self::new()?;
         let (mut points, mut vertices) = (Vec::new(), Vec::new());
         points
@@ -113,10 +152,10 @@ impl<V: HasPosition> DelaunayTriangulation<V> {
         made.kept.insert_all(&points, &mut vertices)?;
         made.is_stale.set(true);
         made.keys.resize(made.kept.num_vertices(), 0);
-        for (vertex, element) in vertices.into_iter().zip(elements) {
-            made.put(vertex, element);
+        for (vertex, element) in vertices.iter().zip(elements) {
+            made.put(*vertex, element);
         }
-        Ok(made)
+        Ok((made, vertices))
     }
 
     /// Inserts a point, and returns its vertex: a new one, which has the next number, or the one
@@ -136,43 +175,17 @@ impl<V: HasPosition> DelaunayTriangulation<V> {
     /// # Ok::<(), Box<dyn std::error::Error>>(())
     /// ```
     pub fn insert(&mut self, vertex: V) -> Result<FixedVertexHandle, InsertionError> {
-        self.insert_from(vertex, None)
+        self.insert_by(vertex, |kept, point| kept.insert(point))
     }
 
-    /// Does the same, by a walk that begins at a vertex: the nearer it is, the shorter is the walk.
-    /// If there is no such vertex, it begins where that of [`insert`](Self::insert) does.
-    ///
-    /// # Errors
-    ///
-    /// [`InsertionError`]. The value is dropped then.
-    ///
-    /// ```
-    /// use dcel::delaunay::{DelaunayTriangulation, Point2};
-    ///
-    /// let mut triangulation = DelaunayTriangulation::new()?;
-    /// let mut last = triangulation.insert(Point2::new(0, 0))?;
-    /// for x in 1..100 {
-    ///     last = triangulation.insert_with_hint(Point2::new(x, x * x), last)?;
-    /// }
-    /// assert_eq!(triangulation.num_inner_faces(), 98);
-    /// # Ok::<(), Box<dyn std::error::Error>>(())
-    /// ```
-    pub fn insert_with_hint(
-        &mut self,
-        vertex: V,
-        hint: FixedVertexHandle,
-    ) -> Result<FixedVertexHandle, InsertionError> {
-        self.insert_from(vertex, Some(hint.number()))
-    }
-
-    fn insert_from(
+    fn insert_by(
         &mut self,
         value: V,
-        hint: Option<u32>,
+        insert: impl FnOnce(&mut K::Kept, Point) -> Result<u32, Refusal>,
     ) -> Result<FixedVertexHandle, InsertionError> {
         let point = value.position().in_range()?;
         self.reserve(1)?;
-        let vertex = self.kept.insert(point, hint)?;
+        let vertex = insert(&mut self.kept, point)?;
         self.is_stale.set(true);
         if vertex as usize == self.keys.len() {
             self.keys.push(0);
@@ -186,7 +199,7 @@ impl<V: HasPosition> DelaunayTriangulation<V> {
     /// # Errors
     ///
     /// [`Refusal::NoSuchVertex`], [`Refusal::NoRoom`] and [`Refusal::OutOfMemory`], which may leave
-    /// edges flipped.
+    /// edges flipped, and constraints that end at the vertex removed.
     ///
     /// ```
     /// use dcel::Refusal;
@@ -253,10 +266,41 @@ impl<V: HasPosition> DelaunayTriangulation<V> {
     }
 }
 
-impl<V> DelaunayTriangulation<V> {
+impl<V: HasPosition> DelaunayTriangulation<V> {
+    /// Inserts a point as [`insert`](Self::insert) does, by a walk that begins at a vertex: the
+    /// nearer it is, the shorter is the walk. If there is no such vertex, it begins where that of
+    /// `insert` does.
+    ///
+    /// # Errors
+    ///
+    /// [`InsertionError`]. The value is dropped then.
+    ///
+    /// ```
+    /// use dcel::delaunay::{DelaunayTriangulation, Point2};
+    ///
+    /// let mut triangulation = DelaunayTriangulation::new()?;
+    /// let mut last = triangulation.insert(Point2::new(0, 0))?;
+    /// for x in 1..100 {
+    ///     last = triangulation.insert_with_hint(Point2::new(x, x * x), last)?;
+    /// }
+    /// assert_eq!(triangulation.num_inner_faces(), 98);
+    /// # Ok::<(), Box<dyn std::error::Error>>(())
+    /// ```
+    pub fn insert_with_hint(
+        &mut self,
+        vertex: V,
+        hint: FixedVertexHandle,
+    ) -> Result<FixedVertexHandle, InsertionError> {
+        self.insert_by(vertex, |kept, point| {
+            kept.insert_with_hint(point, hint.number())
+        })
+    }
+}
+
+impl<V, K: Kind> Triangulation<V, K> {
     /// Returns the triangulation, whole: edges may be left to flip where memory ran out. Panics if
     /// there is no memory for that.
-    fn whole(&self) -> &Triangulation {
+    fn whole(&self) -> &K::Kept {
         if !self.kept.is_whole() {
             self.kept.finish().expect(MEMORY);
             self.is_stale.set(true);
@@ -306,7 +350,7 @@ impl<V> DelaunayTriangulation<V> {
     }
 }
 
-impl<V: Clone> DelaunayTriangulation<V> {
+impl<V: Clone, K: Kind> Triangulation<V, K> {
     /// Makes an equal triangulation with clones of all values. [`Clone`] makes one too, and panics
     /// without memory.
     ///
@@ -336,23 +380,23 @@ impl<V: Clone> DelaunayTriangulation<V> {
 
 const MEMORY: &str = "there is memory for the triangulation's mesh";
 
-impl<V> Deref for DelaunayTriangulation<V> {
+impl<V, K: Kind> Deref for Triangulation<V, K> {
     type Target = Dcel<V>;
 
-    /// Returns the mesh, as [`dcel`](DelaunayTriangulation::dcel).
+    /// Returns the mesh, as [`dcel`](Triangulation::dcel).
     fn deref(&self) -> &Dcel<V> {
         self.dcel()
     }
 }
 
-impl<V: HasPosition> Default for DelaunayTriangulation<V> {
+impl<V: HasPosition, K: Kind> Default for Triangulation<V, K> {
     /// Makes a triangulation of no points. Panics if there is no memory.
     fn default() -> Self {
         Self::new().expect("there is memory for a triangulation")
     }
 }
 
-impl<V: Clone> Clone for DelaunayTriangulation<V> {
+impl<V: Clone, K: Kind> Clone for Triangulation<V, K> {
     /// Makes an equal triangulation with clones of all values. Panics if there is no memory.
     fn clone(&self) -> Self {
         self.try_clone()
@@ -360,10 +404,10 @@ impl<V: Clone> Clone for DelaunayTriangulation<V> {
     }
 }
 
-impl<V> fmt::Debug for DelaunayTriangulation<V> {
+impl<V, K: Kind> fmt::Debug for Triangulation<V, K> {
     /// Writes the counts alone.
     fn fmt(&self, f: &mut fmt::Formatter<'_>) -> fmt::Result {
-        f.debug_struct("DelaunayTriangulation")
+        f.debug_struct(K::NAME)
             .field("vertices", &self.kept.num_vertices())
             .field("inner_faces", &self.kept.num_triangles())
             .finish_non_exhaustive()

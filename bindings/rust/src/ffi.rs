@@ -25,7 +25,8 @@ pub(crate) use declarations::{Point, Position};
 pub(crate) use declarations::{ended, fault_kind, place, removal_state, status};
 use std::cell::UnsafeCell;
 use std::ptr;
-pub(crate) use triangulation::Triangulation;
+pub(crate) use triangulation::NotAdded;
+pub use triangulation::{Constrained, Kept, Triangulation};
 
 /// The links of a half edge: C's `dcel_half_edge`.
 ///

@@ -4,7 +4,10 @@
 mod common;
 
 use common::*;
-use dcel::delaunay::{DelaunayTriangulation, InsertionError, Point2};
+use dcel::delaunay::{
+    ConstrainedDelaunayTriangulation, ConstraintError, DelaunayTriangulation, InsertionError,
+    Point2,
+};
 use dcel::operations::*;
 use dcel::{Dcel, Refusal};
 use std::alloc::{GlobalAlloc, Layout, System};
@@ -209,6 +212,46 @@ fn points() {
             made
         },
         |refused| assert_eq!(refused, InsertionError::OutOfMemory),
+    );
+    assert_eq!(needed, 2);
+    let needed = sweep(
+        |met| with_memory(met, || standing.try_clone()),
+        |refused| assert_eq!(refused, Refusal::OutOfMemory),
+    );
+    assert_eq!(needed, 2);
+}
+
+#[test]
+fn points_and_constraints() {
+    let corners = [(0, 0), (4, 0), (0, 3), (1, 1)].map(|(x, y)| Point2::new(x, y));
+    let needed = sweep(
+        |met| {
+            let (given, edges) = (corners.to_vec(), vec![[0, 3]]);
+            with_memory(met, || {
+                ConstrainedDelaunayTriangulation::bulk_load_cdt(given, edges)
+            })
+        },
+        |refused| {
+            assert_eq!(
+                (refused.why, refused.edge),
+                (ConstraintError::OutOfMemory, None)
+            )
+        },
+    );
+    assert_eq!(needed, 4);
+    let (given, edges) = (corners.to_vec(), vec![[0, 3]]);
+    let standing = ConstrainedDelaunayTriangulation::bulk_load_cdt(given, edges).unwrap();
+    let needed = sweep(
+        |met| {
+            let mut triangulation = standing.clone(); // which has no room to spare
+            let ends = [Point2::new(2, 1), corners[3]];
+            let made = with_memory(met, || triangulation.add_constraint_edge(ends[0], ends[1]));
+            let added = usize::from(made.is_ok());
+            assert_eq!(triangulation.num_vertices(), 4 + added);
+            assert_eq!(triangulation.num_constraints(), 1 + added);
+            made
+        },
+        |refused| assert_eq!(refused, ConstraintError::OutOfMemory),
     );
     assert_eq!(needed, 2);
     let needed = sweep(

@@ -1,7 +1,7 @@
 //! What a triangulation has, and where points are in it.
 
-use super::{DelaunayTriangulation, HasPosition, Point2};
-use crate::ffi::{Position, place};
+use super::{DelaunayTriangulation, HasPosition, Kind, Point2, Triangulation};
+use crate::ffi::{Kept, Point, Position, place};
 use crate::handles::{
     FixedDirectedEdgeHandle, FixedFaceHandle, FixedVertexHandle, InnerTag, VertexHandle,
 };
@@ -50,7 +50,7 @@ pub enum PositionInTriangulation {
 /// assert!(!triangulation.all_vertices_on_line());
 /// # Ok::<(), Box<dyn std::error::Error>>(())
 /// ```
-impl<V> DelaunayTriangulation<V> {
+impl<V, K: Kind> Triangulation<V, K> {
     /// Returns how many vertices there are.
     pub fn num_vertices(&self) -> usize {
         self.kept.num_vertices()
@@ -115,7 +115,7 @@ impl<V> DelaunayTriangulation<V> {
 }
 
 /// Queries, of any points, also those out of range.
-impl<V: HasPosition> DelaunayTriangulation<V> {
+impl<V: HasPosition, K: Kind> Triangulation<V, K> {
     /// Returns where a point is, by a walk from where the last insertion ended.
     ///
     /// ```
@@ -130,35 +130,19 @@ impl<V: HasPosition> DelaunayTriangulation<V> {
     /// # Ok::<(), Box<dyn std::error::Error>>(())
     /// ```
     pub fn locate(&self, point: Point2) -> PositionInTriangulation {
-        self.locate_from(point, None)
+        self.locate_by(point, |kept, point| kept.locate(point))
     }
 
-    /// Does the same, by a walk from a vertex: the nearer it is, the shorter is the walk. If there
-    /// is no such vertex, it begins where that of [`locate`](Self::locate) does.
-    ///
-    /// ```
-    /// use dcel::delaunay::{DelaunayTriangulation, Point2, PositionInTriangulation};
-    ///
-    /// let mut triangulation = DelaunayTriangulation::new()?;
-    /// let vertex = triangulation.insert(Point2::new(1, 2))?;
-    /// let position = triangulation.locate_with_hint(Point2::new(1, 2), vertex);
-    /// assert_eq!(position, PositionInTriangulation::OnVertex(vertex));
-    /// # Ok::<(), Box<dyn std::error::Error>>(())
-    /// ```
-    pub fn locate_with_hint(
+    fn locate_by(
         &self,
         point: Point2,
-        hint: FixedVertexHandle,
+        locate: impl FnOnce(&K::Kept, Point) -> Position,
     ) -> PositionInTriangulation {
-        self.locate_from(point, Some(hint.number()))
-    }
-
-    fn locate_from(&self, point: Point2, hint: Option<u32>) -> PositionInTriangulation {
         use PositionInTriangulation::*;
         let Ok(in_range) = point.in_range() else {
             return self.locate_far(point);
         };
-        let Position { kind, number } = self.whole().locate(in_range, hint);
+        let Position { kind, number } = locate(self.whole(), in_range);
         match kind {
             place::ON_FACE => OnFace(FixedFaceHandle::of(number + 1)),
             place::ON_EDGE => OnEdge(FixedDirectedEdgeHandle::of(number)),
@@ -203,6 +187,32 @@ impl<V: HasPosition> DelaunayTriangulation<V> {
             _ => None,
         }
     }
+}
+
+/// Queries that ask for a triangulation without constraints.
+impl<V: HasPosition> DelaunayTriangulation<V> {
+    /// Returns where a point is as [`locate`](Self::locate) does, by a walk from a vertex: the
+    /// nearer it is, the shorter is the walk. If there is no such vertex, it begins where that of
+    /// `locate` does.
+    ///
+    /// ```
+    /// use dcel::delaunay::{DelaunayTriangulation, Point2, PositionInTriangulation};
+    ///
+    /// let mut triangulation = DelaunayTriangulation::new()?;
+    /// let vertex = triangulation.insert(Point2::new(1, 2))?;
+    /// let position = triangulation.locate_with_hint(Point2::new(1, 2), vertex);
+    /// assert_eq!(position, PositionInTriangulation::OnVertex(vertex));
+    /// # Ok::<(), Box<dyn std::error::Error>>(())
+    /// ```
+    pub fn locate_with_hint(
+        &self,
+        point: Point2,
+        hint: FixedVertexHandle,
+    ) -> PositionInTriangulation {
+        self.locate_by(point, |kept, point| {
+            kept.locate_with_hint(point, hint.number())
+        })
+    }
 
     /// Returns a vertex that no other one is nearer to a point than, or `None` if there is none.
     ///
@@ -245,7 +255,7 @@ impl<V: HasPosition> DelaunayTriangulation<V> {
 
 /// Returns twice the area of the triangle of two points in range and any third one, below 0 if that
 /// is on the right of the two.
-fn side([from, to]: [Point2; 2], point: Point2) -> i128 {
+pub(super) fn side([from, to]: [Point2; 2], point: Point2) -> i128 {
     let [ax, ay] = [to.x - from.x, to.y - from.y].map(i128::from);
     let bx = i128::from(point.x) - i128::from(from.x);
     let by = i128::from(point.y) - i128::from(from.y);
@@ -253,7 +263,7 @@ fn side([from, to]: [Point2; 2], point: Point2) -> i128 {
 }
 
 /// Returns whether a point on the line through two others is behind the first of them.
-fn is_behind([from, to]: [Point2; 2], point: Point2) -> bool {
+pub(super) fn is_behind([from, to]: [Point2; 2], point: Point2) -> bool {
     let [ax, ay] = [to.x - from.x, to.y - from.y].map(i128::from);
     let bx = i128::from(point.x) - i128::from(from.x);
     let by = i128::from(point.y) - i128::from(from.y);

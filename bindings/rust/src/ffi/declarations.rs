@@ -38,6 +38,7 @@ pub(crate) mod status {
     pub(crate) const FAULTY: u32 = 23;
     pub(crate) const OUT_OF_RANGE: u32 = 24;
     pub(crate) const UNFINISHED: u32 = 25;
+    pub(crate) const CROSSES: u32 = 26;
 }
 
 /// How a legalization ended.
@@ -99,7 +100,7 @@ pub(crate) mod place {
 
 /// The names of statuses, by number.
 #[cfg(test)]
-pub(crate) const STATUS_NAMES: [&str; 26] = [
+pub(crate) const STATUS_NAMES: [&str; 27] = [
     "Done",
     "NoSuchVertex",
     "NoSuchEdge",
@@ -126,6 +127,7 @@ pub(crate) const STATUS_NAMES: [&str; 26] = [
     "Faulty",
     "OutOfRange",
     "Unfinished",
+    "Crosses",
 ];
 
 /// A mesh, or none: zero bytes are one that isn't open. The fields are the library's. C's
@@ -206,6 +208,14 @@ pub(super) struct RawTriangulation {
 pub(crate) struct Position {
     pub(crate) kind: u32,
     pub(crate) number: u32,
+}
+
+/// A triangulation with constraints, or none: zero bytes are one that isn't open. The fields are
+/// the library's. C's `dcel_constrained`.
+#[repr(C)]
+pub(super) struct RawConstrained {
+    pub(super) at: *mut c_void,
+    pub(super) is_open: bool,
 }
 
 /// With it what uses the crate is linked with no library of another version than the crate's.
@@ -539,5 +549,82 @@ unsafe extern "C" {
         triangulation: &mut RawTriangulation,
         point: Point,
         vertex: &mut u32,
+    ) -> u32;
+    pub(super) safe fn dcel_constrained_new(triangulation: &mut RawConstrained) -> u32;
+    pub(super) safe fn dcel_constrained_free(triangulation: &mut RawConstrained);
+    pub(super) safe fn dcel_constrained_clone(
+        from: &mut RawConstrained,
+        to: &mut RawConstrained,
+    ) -> u32;
+    pub(super) safe fn dcel_constrained_from_triangulation(
+        from: &mut RawTriangulation,
+        to: &mut RawConstrained,
+    ) -> u32;
+    pub(super) safe fn dcel_constrained_num_vertices(triangulation: &mut RawConstrained) -> u64;
+    pub(super) safe fn dcel_constrained_num_edges(triangulation: &mut RawConstrained) -> u64;
+    pub(super) safe fn dcel_constrained_num_triangles(triangulation: &mut RawConstrained) -> u64;
+    pub(super) safe fn dcel_constrained_num_constraints(triangulation: &mut RawConstrained) -> u64;
+    pub(super) safe fn dcel_constrained_is_whole(triangulation: &mut RawConstrained) -> bool;
+    pub(super) safe fn dcel_constrained_finish(triangulation: &mut RawConstrained) -> u32;
+    pub(super) safe fn dcel_constrained_insert(
+        triangulation: &mut RawConstrained,
+        point: Point,
+        vertex: &mut u32,
+    ) -> u32;
+    pub(super) fn dcel_constrained_insert_all(
+        triangulation: &mut RawConstrained,
+        points: *const Point,
+        points_len: usize,
+        vertices: *mut u32,
+        vertices_len: usize,
+        row: &mut u64,
+    ) -> u32;
+    pub(super) safe fn dcel_constrained_remove(
+        triangulation: &mut RawConstrained,
+        vertex: u32,
+        moved: &mut u64,
+    ) -> u32;
+    pub(super) safe fn dcel_constrained_locate(
+        triangulation: &mut RawConstrained,
+        point: Point,
+        position: &mut Position,
+    ) -> u32;
+    pub(super) safe fn dcel_constrained_can_add_constraint(
+        triangulation: &mut RawConstrained,
+        from: u32,
+        to: u32,
+        answer: &mut bool,
+    ) -> u32;
+    pub(super) safe fn dcel_constrained_add_constraint(
+        triangulation: &mut RawConstrained,
+        from: u32,
+        to: u32,
+        added: &mut bool,
+    ) -> u32;
+    pub(super) safe fn dcel_constrained_remove_constraint(
+        triangulation: &mut RawConstrained,
+        edge: u32,
+        was: &mut bool,
+    ) -> u32;
+    pub(super) safe fn dcel_constrained_is_constraint(
+        triangulation: &mut RawConstrained,
+        edge: u32,
+    ) -> bool;
+    pub(super) safe fn dcel_constrained_exists_constraint(
+        triangulation: &mut RawConstrained,
+        from: u32,
+        to: u32,
+    ) -> bool;
+    pub(super) fn dcel_constrained_directed_edges(
+        triangulation: &mut RawConstrained,
+        half_edges: *mut HalfEdgeEntry,
+        half_edges_len: usize,
+        needed: &mut u64,
+    ) -> u32;
+    pub(super) fn dcel_constrained_regions(
+        triangulation: &mut RawConstrained,
+        depths: *mut u32,
+        depths_len: usize,
+        needed: &mut u64,
     ) -> u32;
 }

@@ -1,0 +1,440 @@
+//! Triangulations with constraints against what the constrained Delaunay condition says.
+
+#[path = "common/plane.rs"]
+mod plane;
+
+use dcel::Refusal;
+use dcel::delaunay::{
+    ConstrainedDelaunayTriangulation as Triangulation, ConstraintError, DelaunayTriangulation,
+    HasPosition, LoadError, Point2, PositionInTriangulation as Position,
+};
+use dcel::handles::{FixedDirectedEdgeHandle, FixedUndirectedEdgeHandle, FixedVertexHandle};
+use plane::{Numbers, area, in_circle};
+use std::cell::Cell;
+use std::collections::BTreeSet;
+use std::rc::Rc;
+
+/// A segment, its lesser end first.
+type Segment = [Point2; 2];
+
+/// What is to be there: the points by their vertices, and the edges that are constraints.
+#[derive(Clone, Default)]
+struct Wanted {
+    points: Vec<Point2>,
+    constraints: BTreeSet<Segment>,
+}
+
+fn segment(mut ends: [Point2; 2]) -> Segment {
+    ends.sort();
+    ends
+}
+
+/// Whether a point is on a segment, also at an end.
+fn is_on([from, to]: Segment, point: Point2) -> bool {
+    area([from, to, point]) == 0 && from <= point && point <= to
+}
+
+/// Whether each of two segments has the ends of the other strictly on its two sides.
+fn cross(one: Segment, other: Segment) -> bool {
+    let parts =
+        |[a, b]: Segment, [c, d]: Segment| area([a, b, c]).signum() * area([a, b, d]).signum() < 0;
+    parts(one, other) && parts(other, one)
+}
+
+impl Wanted {
+    fn of(points: &[Point2]) -> Self {
+        let mut made = Self::default();
+        points.iter().for_each(|point| made.insert(*point));
+        made
+    }
+
+    fn insert(&mut self, point: Point2) {
+        if self.points.contains(&point) {
+            return;
+        }
+        self.points.push(point);
+        let split = self.constraints.iter().find(|it| is_on(**it, point));
+        if let Some(&split) = split {
+            self.constraints.remove(&split);
+            let parts = split.map(|end| segment([end, point]));
+            self.constraints.extend(parts);
+        }
+    }
+
+    fn remove(&mut self, vertex: usize) {
+        let point = self.points.swap_remove(vertex);
+        self.constraints.retain(|ends| !ends.contains(&point));
+    }
+
+    fn can_add(&self, ends: [Point2; 2]) -> bool {
+        let crosses = |it: &Segment| cross(*it, segment(ends));
+        !self.constraints.iter().any(crosses)
+    }
+
+    /// Returns whether something is added.
+    fn add(&mut self, ends: [Point2; 2]) -> bool {
+        let points = self.points.iter().copied();
+        let on: BTreeSet<_> = points
+            .filter(|point| is_on(segment(ends), *point))
+            .collect();
+        let before = self.constraints.len();
+        let next = on.iter().skip(1);
+        self.constraints
+            .extend(on.iter().zip(next).map(|(from, to)| [*from, *to]));
+        self.constraints.len() > before
+    }
+}
+
+/// The triangulation has these points and constraints, and is Delaunay but for them.
+fn check(triangulation: &Triangulation<Point2>, wanted: &Wanted) {
+    assert!(triangulation.sanity_check());
+    assert_eq!(triangulation.num_vertices(), wanted.points.len());
+    for vertex in triangulation.vertices() {
+        assert!(wanted.points.contains(&vertex.position()));
+        assert_eq!(triangulation.vertex_data(vertex.fix()), vertex.data());
+    }
+    let mut found = BTreeSet::new();
+    for edge in triangulation.undirected_edges() {
+        let (ends, directed) = (edge.positions(), edge.as_directed());
+        let is_constraint = triangulation.is_constraint_edge(edge.fix());
+        let [from, to] = [directed.from().fix(), directed.to().fix()];
+        assert_eq!(triangulation.exists_constraint(to, from), is_constraint);
+        if is_constraint {
+            found.insert(segment(ends));
+        } else if !directed.face().is_outer() && !directed.rev().face().is_outer() {
+            let corner = |edge: dcel::handles::DirectedEdgeHandle<'_, _, _, _, _>| {
+                edge.next().to().position()
+            };
+            let circle = [ends[0], ends[1], corner(directed)];
+            assert!(in_circle(circle, corner(directed.rev())) <= 0);
+        }
+    }
+    assert_eq!(found, wanted.constraints);
+    assert_eq!(triangulation.num_constraints(), found.len());
+    check_cover(triangulation);
+    check_regions(triangulation);
+}
+
+/// The triangles go counterclockwise, and are as large together as the hull.
+fn check_cover(triangulation: &Triangulation<Point2>) {
+    let areas = triangulation
+        .inner_faces()
+        .map(|face| area(face.positions()));
+    let covered: i128 = areas.inspect(|area| assert!(*area > 0)).sum();
+    let origin = Point2::new(0, 0);
+    let hull = triangulation
+        .convex_hull()
+        .map(|edge| edge.rev().positions());
+    let around: i128 = hull.map(|[from, to]| area([origin, from, to])).sum();
+    assert_eq!(covered, around);
+}
+
+/// A face is as deep as the least deep one beside it, or by one deeper past a constraint.
+fn check_regions(triangulation: &Triangulation<Point2>) {
+    let regions = triangulation.regions();
+    assert_eq!(regions.len(), triangulation.num_all_faces());
+    let mut least = vec![u32::MAX - 1; regions.len()];
+    least[0] = 0;
+    for _ in 0..regions.len() {
+        for edge in triangulation.directed_edges() {
+            let step = u32::from(triangulation.is_constraint_edge(edge.as_undirected().fix()));
+            let [to, from] = [edge.face(), edge.rev().face()].map(|face| face.fix().index());
+            least[to] = least[to].min(least[from] + step);
+        }
+    }
+    assert_eq!(regions, least);
+}
+
+/// What is said of where a point is is so.
+fn check_point(triangulation: &Triangulation<Point2>, wanted: &Wanted, point: Point2) {
+    match triangulation.locate(point) {
+        Position::OnVertex(vertex) => {
+            assert_eq!(triangulation.vertex(vertex).position(), point);
+        }
+        Position::OnEdge(edge) => {
+            let ends = triangulation.directed_edge(edge).positions();
+            assert!(is_on(segment(ends), point) && !ends.contains(&point));
+        }
+        Position::OnFace(face) => {
+            let [a, b, c] = triangulation.face(face).positions();
+            let sides = [[a, b, point], [b, c, point], [c, a, point]];
+            assert!(sides.iter().all(|it| area(*it) > 0));
+        }
+        Position::OutsideOfConvexHull(edge) => {
+            let edge = triangulation.directed_edge(edge);
+            let [from, to] = edge.positions();
+            let side = area([from, to, point]);
+            assert!(edge.face().is_outer());
+            assert!(side > 0 || side == 0 && triangulation.all_vertices_on_line());
+        }
+        Position::NoTriangulation => {
+            assert!(wanted.points.len() < 2 && !wanted.points.contains(&point));
+        }
+    }
+}
+
+#[test]
+fn random_sets() {
+    let mut conflicting = 0;
+    for seed in 1..=200 {
+        let mut numbers = Numbers(seed);
+        let width = [2, 9, 1 << 19][seed as usize % 3];
+        let count = 1 + numbers.below(25);
+        let points: Vec<_> = (0..count).map(|_| numbers.point(width)).collect();
+        let edges: Vec<[usize; 2]> = (0..numbers.below(20))
+            .map(|_| [0; 2].map(|_| numbers.below(count) as usize))
+            .collect();
+        let (mut wanted, mut conflicts) = (Wanted::of(&points), Vec::new());
+        for edge in &edges {
+            let ends = edge.map(|end| points[end]);
+            if wanted.can_add(ends) {
+                wanted.add(ends);
+            } else {
+                conflicts.push(*edge);
+            }
+        }
+        let mut found = Vec::new();
+        let triangulation =
+            Triangulation::try_bulk_load_cdt(points.clone(), edges.clone(), |it| found.push(it));
+        assert_eq!(found, conflicts);
+        check(&triangulation.unwrap(), &wanted);
+        match Triangulation::bulk_load_cdt(points.clone(), edges.clone()) {
+            Ok(triangulation) => {
+                assert!(conflicts.is_empty());
+                check(&triangulation.clone(), &wanted);
+            }
+            Err(error) => {
+                conflicting += 1;
+                assert_eq!(error.why, ConstraintError::Crosses);
+                assert_eq!(edges[error.edge.unwrap()], conflicts[0]);
+            }
+        }
+    }
+    assert!(conflicting > 20);
+}
+
+#[test]
+fn points_and_constraints_come_and_go() {
+    for seed in 1..=60 {
+        let mut numbers = Numbers(seed);
+        let width = [3, 9, 1 << 19][seed as usize % 3];
+        let (mut triangulation, mut wanted) = (Triangulation::new().unwrap(), Wanted::default());
+        for _ in 0..30 {
+            change(&mut numbers, width, &mut triangulation, &mut wanted);
+            check_point(&triangulation, &wanted, numbers.point(width + 1));
+            if numbers.below(4) == 0 {
+                check(&triangulation, &wanted);
+            }
+        }
+        let clone = triangulation.clone();
+        while triangulation.num_vertices() > 0 {
+            triangulation.remove(FixedVertexHandle::new(0)).unwrap();
+        }
+        check(&clone, &wanted);
+        check(&triangulation, &Wanted::default());
+    }
+}
+
+fn change(
+    numbers: &mut Numbers,
+    width: i64,
+    triangulation: &mut Triangulation<Point2>,
+    wanted: &mut Wanted,
+) {
+    let count = wanted.points.len() as u64;
+    if count == 0 || numbers.below(2) == 0 {
+        let point = numbers.point(width);
+        let vertex = triangulation.insert(point).unwrap();
+        wanted.insert(point);
+        assert_eq!(wanted.points[vertex.index()], point);
+        return;
+    }
+    let places = [0; 2].map(|_| numbers.below(count) as usize);
+    let [from, to] = places.map(FixedVertexHandle::new);
+    let ends = places.map(|place| wanted.points[place]);
+    let edges = triangulation.num_undirected_edges() as u64;
+    match numbers.below(4) {
+        0 => {
+            let removed = triangulation.remove(from).unwrap();
+            assert_eq!(removed.removed_vertex, ends[0]);
+            wanted.remove(from.index());
+        }
+        1 if edges > 0 => {
+            let edge = FixedUndirectedEdgeHandle::new(numbers.below(edges) as usize);
+            let ends = triangulation.undirected_edge(edge).positions();
+            let was = wanted.constraints.remove(&segment(ends));
+            assert_eq!(triangulation.remove_constraint_edge(edge), Ok(was));
+        }
+        _ => {
+            let can_add = wanted.can_add(ends);
+            assert_eq!(triangulation.can_add_constraint(from, to), can_add);
+            let mut tried = triangulation.clone();
+            let edges = tried.try_add_constraint(from, to).unwrap();
+            let added = triangulation.add_constraint(from, to);
+            match can_add {
+                true => assert_eq!(added, Ok(wanted.add(ends))),
+                false => assert_eq!(added, Err(ConstraintError::Crosses)),
+            }
+            check(&tried, wanted);
+            check_chain(&tried, wanted, can_add, ends, &edges);
+        }
+    }
+}
+
+/// The half edges are those along a segment, if it can be added.
+fn check_chain(
+    triangulation: &Triangulation<Point2>,
+    wanted: &Wanted,
+    can_add: bool,
+    ends: [Point2; 2],
+    edges: &[FixedDirectedEdgeHandle],
+) {
+    let mut place = ends[0];
+    for edge in edges {
+        let edge = triangulation.directed_edge(*edge);
+        let [from, to] = edge.positions();
+        assert!(from == place && wanted.constraints.contains(&segment([from, to])));
+        assert!(triangulation.is_constraint_edge(edge.as_undirected().fix()));
+        assert!(is_on(segment(ends), to) && is_on(segment([from, ends[1]]), to));
+        place = to;
+    }
+    assert_eq!(place == ends[1], can_add || ends[0] == ends[1]);
+    assert!(can_add || edges.is_empty());
+}
+
+fn square() -> Vec<Point2> {
+    let corners = [(0, 0), (6, 0), (6, 6), (0, 6), (2, 3)];
+    corners.map(|(x, y)| Point2::new(x, y)).to_vec()
+}
+
+#[test]
+fn what_is_refused_changes_nothing() {
+    let outline = vec![[0, 1], [1, 2], [2, 3], [3, 0], [0, 2]];
+    let mut triangulation = Triangulation::bulk_load_cdt(square(), outline.clone()).unwrap();
+    let mut wanted = Wanted::of(&square());
+    for [from, to] in outline {
+        wanted.add([square()[from], square()[to]]);
+    }
+    let vertex = |triangulation: &Triangulation<Point2>, place: usize| {
+        triangulation.locate_vertex(square()[place]).unwrap().fix()
+    };
+    let [one, three] = [1, 3].map(|place| vertex(&triangulation, place));
+    let crosses = triangulation.add_constraint(one, three);
+    assert_eq!(crosses, Err(ConstraintError::Crosses));
+    for number in [8, 99, u32::MAX as usize] {
+        let none = FixedVertexHandle::new(number);
+        for [from, to] in [[none, one], [one, none], [none, none]] {
+            assert!(!triangulation.can_add_constraint(from, to));
+            assert!(!triangulation.exists_constraint(from, to));
+            let refused = triangulation.add_constraint(from, to);
+            assert_eq!(refused, Err(ConstraintError::NoSuchVertex));
+        }
+        assert_eq!(triangulation.remove(none), Err(Refusal::NoSuchVertex));
+        let none = FixedUndirectedEdgeHandle::new(number);
+        assert!(!triangulation.is_constraint_edge(none));
+        assert_eq!(triangulation.remove_constraint_edge(none), Ok(false));
+    }
+    let far = Point2::new(1 << 54, 0);
+    let refused = triangulation.add_constraint_edge(far, square()[0]);
+    assert_eq!(refused, Err(ConstraintError::OutOfRange));
+    assert_eq!(triangulation.add_constraint(one, one), Ok(false));
+    check(&triangulation, &wanted);
+    for (edges, why) in [
+        (vec![[0, 2], [1, 5]], ConstraintError::NoSuchVertex),
+        (vec![[0, 2], [usize::MAX, 1]], ConstraintError::NoSuchVertex),
+        (vec![[0, 2], [3, 1], [9, 9]], ConstraintError::Crosses),
+    ] {
+        let refused = Triangulation::bulk_load_cdt(square(), edges.clone());
+        let edge = Some(1);
+        assert_eq!(refused.unwrap_err(), LoadError { why, edge });
+        if why == ConstraintError::NoSuchVertex {
+            let refused = Triangulation::try_bulk_load_cdt(square(), edges, |_| unreachable!());
+            assert_eq!(refused.unwrap_err(), LoadError { why, edge });
+        }
+    }
+    let refused = Triangulation::bulk_load_cdt(vec![square()[0], far], vec![[0, 9]]);
+    let (why, edge) = (ConstraintError::OutOfRange, None);
+    assert_eq!(refused.unwrap_err(), LoadError { why, edge });
+}
+
+#[test]
+fn curves() {
+    let mut triangulation = Triangulation::new().unwrap();
+    let mut wanted = Wanted::of(&square());
+    triangulation.add_constraint_edges(square(), true).unwrap();
+    for place in 0..5 {
+        wanted.add([square()[place], square()[(place + 1) % 5]]);
+    }
+    check(&triangulation, &wanted);
+    let open = [(1, 1), (2, 1), (2, 2)].map(|(x, y)| Point2::new(x, y));
+    triangulation.add_constraint_edges(open, false).unwrap();
+    open.iter().for_each(|point| wanted.insert(*point));
+    wanted.add([open[0], open[1]]);
+    wanted.add([open[1], open[2]]);
+    check(&triangulation, &wanted);
+    triangulation.add_constraint_edges([], true).unwrap();
+    triangulation.add_constraint_edges([open[0]], true).unwrap();
+    check(&triangulation, &wanted);
+    // What comes before a segment that crosses one stays.
+    let crossing = [(8, 3), (5, 3), (5, 9)].map(|(x, y)| Point2::new(x, y));
+    let refused = triangulation.add_constraint_edges(crossing, false);
+    assert_eq!(refused, Err(ConstraintError::Crosses));
+    wanted.insert(crossing[0]);
+    wanted.insert(crossing[1]);
+    check(&triangulation, &wanted);
+}
+
+#[test]
+fn one_without_constraints_becomes_one_with() {
+    let free = DelaunayTriangulation::bulk_load(square()).unwrap();
+    let positions: Vec<_> = free.vertices().map(|vertex| vertex.position()).collect();
+    let edges = free.num_undirected_edges();
+    let mut made = Triangulation::from(free.clone());
+    check(&made, &Wanted::of(&square()));
+    let same = made.vertices().map(|vertex| vertex.position());
+    assert!(same.eq(positions) && made.num_undirected_edges() == edges);
+    made.insert(Point2::new(9, 9)).unwrap();
+    assert_eq!((free.num_vertices(), made.num_vertices()), (5, 6));
+    let text = format!("{:?}", Triangulation::<Point2>::default());
+    assert!(text.starts_with("ConstrainedDelaunayTriangulation { vertices: 0"));
+    let none = Triangulation::from(DelaunayTriangulation::<Point2>::default());
+    assert_eq!((none.num_vertices(), none.regions()), (0, vec![0]));
+}
+
+/// A value that counts its drops.
+struct Counted(Point2, Rc<Cell<u32>>);
+
+impl HasPosition for Counted {
+    fn position(&self) -> Point2 {
+        self.0
+    }
+}
+
+impl Drop for Counted {
+    fn drop(&mut self) {
+        self.1.set(self.1.get() + 1);
+    }
+}
+
+#[test]
+fn values_are_dropped_once() {
+    let drops = Rc::new(Cell::new(0));
+    let value = |place: usize| Counted(square()[place], drops.clone());
+    let values = || (0..5).map(value).collect::<Vec<_>>();
+    assert!(Triangulation::bulk_load_cdt(values(), vec![[0, 2], [1, 3]]).is_err());
+    assert_eq!(drops.get(), 5);
+    let free = DelaunayTriangulation::bulk_load(values()).unwrap();
+    let mut triangulation = Triangulation::from(free);
+    assert_eq!(drops.get(), 5);
+    assert_eq!(
+        triangulation.add_constraint_edge(value(0), value(2)),
+        Ok(true)
+    );
+    assert_eq!(drops.get(), 7);
+    let refused = triangulation.add_constraint_edges([value(1), value(3), value(4)], false);
+    assert_eq!(refused, Err(ConstraintError::Crosses));
+    assert_eq!(drops.get(), 10);
+    drop(triangulation.remove(FixedVertexHandle::new(0)).unwrap());
+    drop(triangulation.into_dcel());
+    assert_eq!(drops.get(), 15);
+}
