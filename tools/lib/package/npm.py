@@ -15,8 +15,11 @@ is only tested. `mesh.d.ts` has the types; `mesh.html` is a page that edits and 
 ```js
 {example}```
 
-Each call starts from an empty mesh and keeps nothing. The engine must support 64-bit memories: Node does from 24 on, and Node 20 with
-`--experimental-wasm-memory64`.
+`new Delaunay(coords)` has `triangles`, `halfedges` and `hull` as typed arrays, under delaunator's names. Each call starts from an empty
+mesh and keeps nothing.
+
+The engine must support WebAssembly memories with 64-bit addresses, or a call throws an error that says so. Node does from 24 on, and Node 20
+with `--experimental-wasm-memory64`; Chrome, Chromium and Edge do from 133 on, Firefox from 134 on, and Safari, as far as known, doesn't.
 
 Licensed under MIT or Apache-2.0, as you choose.
 """

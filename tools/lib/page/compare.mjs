@@ -3,11 +3,13 @@
 import { readFileSync, readdirSync } from 'node:fs';
 import { resolve } from 'node:path';
 import { pathToFileURL } from 'node:url';
+import { arrayFaults } from './arrays.mjs';
 import { bufferFaults } from './buffers.mjs';
 
 const ROOT = resolve(new URL('../../..', import.meta.url).pathname);
 const folder = resolve(process.argv[2]);
-const { replies, picture, triangulate } = await import(pathToFileURL(`${folder}/mesh.js`));
+const address = pathToFileURL(`${folder}/mesh.js`);
+const { replies, picture, triangulate, Delaunay } = await import(address);
 
 const faults = [], counts = { talks: 0, lines: 0, 'talks with a limit left out': 0, pictures: 0, triangulations: 0, refusals: 0 };
 const read = file => readFileSync(`${ROOT}/${file}`, 'utf8');
@@ -72,14 +74,31 @@ function compareRanges() {
   }
 }
 
+/** What an engine without 64-bit memories is told, by a module that finds none. */
+async function compareLacking() {
+  const lacking = await import(`${address}?lacking`), { validate } = WebAssembly;
+  WebAssembly.validate = () => false;
+  for (const call of [() => lacking.replies(''), () => lacking.picture(''), () => lacking.triangulate([]), () => new lacking.Delaunay([])]) {
+    try {
+      faults.push(`${call} needs no 64-bit memory: ${call()}`);
+    } catch (error) {
+      if (!(error instanceof WebAssembly.CompileError && error.message.includes('64-bit addresses'))) faults.push(`${call}: ${error}`);
+      counts.refusals++;
+    }
+  }
+  WebAssembly.validate = validate;
+}
+
+await compareLacking();
 same('dcel_run', replies(read('crates/dcel_run/stdin')), read('crates/dcel_run/stdout'));
 same('picture', picture(read('crates/dcel_draw/stdin'), { anchors: true }), read('crates/dcel_draw/stdout'));
 compareTalks();
 comparePictures();
 compareTriangles();
 compareRanges();
+const arrays = arrayFaults(Delaunay, faults);
 const calls = bufferFaults(readFileSync(`${folder}/mesh.wasm`), faults);
-const all = { ...counts, 'calls with a short buffer or little memory': calls };
+const all = { ...counts, 'triangulations as arrays': arrays, 'calls with a short buffer or little memory': calls };
 for (const [name, count] of Object.entries(all)) if (!count) faults.push(`there were no ${name} to try`);
 const told = Object.entries(all).map(([name, count]) => `${count} ${name}`);
 console.log([...faults, `module in Node ${process.version}: ${told.join(', ')}, ${faults.length} faults`].join('\n'));
