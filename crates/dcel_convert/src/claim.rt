@@ -3,10 +3,9 @@
 use crate::fault::{Fault, Wrong};
 use dcel_exchange::LinkLists;
 use std::alloc::{AllocError, Global};
-use std::fmt::{self, Formatter};
 
 /// The two kinds of lines that list half edges.
-#[derive(Clone, Copy, Debug, Drop)]
+#[derive(Clone, Copy)]
 pub enum Lines {
     /// For each face the half edges round it, by `next`.
     Words,
@@ -14,11 +13,11 @@ pub enum Lines {
     Turns,
 }
 
-impl fmt::Display for Lines {
-    fn fmt<W: fmt::Write>(&self, f: &mut Formatter<W>) -> fmt::Result {
+impl Lines {
+    fn name(self) -> &'static str {
         match self {
-            Lines::Words => write!(f, "words"),
-            Lines::Turns => write!(f, "out lines"),
+            Lines::Words => "words",
+            Lines::Turns => "out lines",
         }
     }
 }
@@ -38,6 +37,16 @@ pub struct Claim {
 }
 
 impl Claim {
+    /// Makes a claim of nothing.
+    pub fn new(alloc: Global) -> Self {
+        Claim {
+            edges: 0,
+            words: Vec::new(alloc),
+            turns: Vec::new(alloc),
+            closed: None,
+        }
+    }
+
     /// Returns the lists of one kind.
     pub fn lists(&self, lines: Lines) -> &[Vec<u32>] {
         match lines {
@@ -55,32 +64,47 @@ impl Claim {
         place.saturating_add(before).saturating_add(2)
     }
 
-    /// Returns the links that the lists say. A half edge that stands in no list of a kind, or in
-    /// two, is refused.
-    pub fn links(&self, alloc: Global) -> Result<LinkLists, Fault> {
-        let face = self.owners(alloc, Lines::Words)?;
-        let origin = self.owners(alloc, Lines::Turns)?;
-        let mut next = vec![in alloc; 0; face.len()]?;
+    /// Lists the links that the lists say. A half edge that stands in no list of a kind, or in two,
+    /// is refused.
+    pub fn list_links(&self, alloc: Global, links: &mut LinkLists) -> Result<(), Fault> {
+        self.list_owners(alloc, Lines::Words, &mut links.face)?;
+        self.list_owners(alloc, Lines::Turns, &mut links.origin)?;
+        links.next = vec![in alloc; 0; links.face.len()]?;
         for word in &self.words {
-            link_round(word, &mut next);
+            link_round(word, &mut links.next);
         }
-        Ok(LinkLists { next, origin, face })
+        Ok(())
     }
 
-    /// Returns the list of a kind that each half edge stands in.
-    fn owners(&self, alloc: Global, lines: Lines) -> Result<Vec<u32>, Fault> {
-        let lists = self.lists(lines);
-        let mut owners = vec![in alloc; None; self.num_looked_for(lists)]?;
-        for (owner, list) in (0..u32::MAX).zip(lists) {
-            note(list, owner, &mut owners).map_err(|half| Fault::Line {
-                line: self.line_of(lines, owner as usize),
-                wrong: Wrong::Twice(half, lines),
-            })?;
+    /// Lists for each half edge the list of a kind that it stands in.
+    fn list_owners(&self, alloc: Global, lines: Lines, owners: &mut Vec<u32>) -> Result<(), Fault> {
+        let mut noted = vec![in alloc; None; self.num_looked_for(self.lists(lines))]?;
+        self.note_all(alloc, lines, &mut noted)?;
+        match list_noted(&noted, owners)? {
+            None => Ok(()),
+            Some(half) => Err(Fault::Line {
+                line: 1,
+                wrong: wrong_of(alloc, half, "nowhere", lines),
+            }),
         }
-        all_noted(alloc, owners)?.map_err(|half| Fault::Line {
-            line: 1,
-            wrong: Wrong::Nowhere(half, lines),
-        })
+    }
+
+    /// Notes of each half edge the list of a kind that it stands in.
+    fn note_all(
+        &self,
+        alloc: Global,
+        lines: Lines,
+        noted: &mut [Option<u32>],
+    ) -> Result<(), Fault> {
+        for (owner, list) in (0..u32::MAX).zip(self.lists(lines)) {
+            if let Some(half) = note(list, owner, noted) {
+                return Err(Fault::Line {
+                    line: self.line_of(lines, owner as usize),
+                    wrong: wrong_of(alloc, half as usize, "twice", lines),
+                });
+            }
+        }
+        Ok(())
     }
 
     /// Counts the half edges that are looked for in the lists: all, or if the lists are too short
@@ -95,32 +119,34 @@ impl Claim {
     }
 }
 
+/// Returns that a half edge stands nowhere or twice in the lines of a kind.
+fn wrong_of(alloc: Global, half: usize, times: &str, lines: Lines) -> Wrong {
+    let lines = lines.name();
+    Wrong::text(format!(in alloc; "half edge {half} stands {times} in the {lines}"))
+}
+
 /// Notes that these half edges stand in this list, or returns one that stands in a list already.
-fn note(list: &[u32], owner: u32, owners: &mut [Option<u32>]) -> Result<(), u32> {
+fn note(list: &[u32], owner: u32, noted: &mut [Option<u32>]) -> Option<u32> {
     for half in list {
-        if let Some(known) = owners.get_mut(*half as usize) {
+        if let Some(known) = noted.get_mut(*half as usize) {
             if known.is_some() {
-                return Err(*half);
+                return Some(*half);
             }
             *known = Some(owner);
         }
     }
-    Ok(())
+    None
 }
 
-/// Returns the list of each half edge, or the first half edge that has none.
-fn all_noted(
-    alloc: Global,
-    owners: Vec<Option<u32>>,
-) -> Result<Result<Vec<u32>, usize>, AllocError> {
-    let mut noted = Vec::new(alloc);
-    for (half, owner) in owners.into_iter().enumerate() {
+/// Lists what is noted of the half edges, and returns the first one of which nothing is.
+fn list_noted(noted: &[Option<u32>], owners: &mut Vec<u32>) -> Result<Option<usize>, AllocError> {
+    for (half, owner) in noted.iter().enumerate() {
         match owner {
-            Some(owner) => noted.push(owner)?,
-            None => return Ok(Err(half)),
+            Some(owner) => owners.push(*owner)?,
+            None => return Ok(Some(half)),
         }
     }
-    Ok(Ok(noted))
+    Ok(None)
 }
 
 /// Has each half edge of a word lead to the one behind it, and the last to the first.

@@ -11,52 +11,63 @@ use std::alloc::{AllocError, Global};
 /// The data of a mesh.
 type Given = MeshData<String, (), (), usize, Global>;
 
-/// Makes the mesh that is claimed, with all coordinates 0. If there is none, the line is told that
-/// shows it, where one does.
+/// Makes the mesh that is claimed, with all coordinates 0. Whether it has the turns that are
+/// claimed, and the outer face, is for [`check`].
 pub fn claimed_mesh(alloc: Global, claim: &Claim) -> Result<Solid, Fault> {
-    let links = claim.links(alloc)?;
-    let solid = linked(alloc, claim, &links)?;
-    check(alloc, &solid.mesh, claim)?;
-    Ok(solid)
+    let mut links = LinkLists {
+        next: Vec::new(alloc),
+        origin: Vec::new(alloc),
+        face: Vec::new(alloc),
+    };
+    match claim.list_links(alloc, &mut links) {
+        Ok(()) => linked(alloc, claim, &links),
+        Err(fault) => Err(fault),
+    }
 }
 
-/// Makes the mesh that has these links.
+/// Makes the mesh that has these links. If there is none, the line is told that shows it, where one
+/// does.
 fn linked(alloc: Global, claim: &Claim, links: &LinkLists) -> Result<Solid, Fault> {
-    let given = given(alloc, claim, links.next.len() / 2)?;
+    let mut given = MeshData {
+        vertices: Vec::new(alloc),
+        edges: Vec::new(alloc),
+        faces: Vec::new(alloc),
+    };
+    if let Err(error) = fill(alloc, claim, links.next.len() / 2, &mut given) {
+        return Err(Fault::OutOfMemory(error));
+    }
     match from_links(alloc, links.as_links(), given) {
         Ok(mesh) => Ok(Solid {
             mesh,
             outer: claim.closed,
         }),
-        Err(refused) => Err(fault_of(refused.reason, claim, links)),
+        Err(refused) => Err(fault_of(alloc, refused.reason, claim, links)),
     }
 }
 
 /// Looks whether the mesh has the turns and the outer face that are claimed.
-fn check(alloc: Global, mesh: &Mesh, claim: &Claim) -> Result<(), Fault> {
-    check_turns(mesh, claim)?;
+pub fn check(alloc: Global, mesh: &Mesh, claim: &Claim) -> Result<(), Fault> {
+    check_turns(alloc, mesh, claim)?;
     check_outer(alloc, mesh, claim)
 }
 
-/// Returns data for a mesh with so many edges.
-fn given(alloc: Global, claim: &Claim, edges: usize) -> Result<Given, AllocError> {
-    Ok(MeshData {
-        vertices: no_places(alloc, claim.turns.len())?,
-        edges: no_data(alloc, edges)?,
-        faces: vec![in alloc; 0; claim.words.len()]?,
-    })
+/// Fills in data for a mesh with so many edges.
+fn fill(alloc: Global, claim: &Claim, edges: usize, given: &mut Given) -> Result<(), AllocError> {
+    fill_places(alloc, claim.turns.len(), &mut given.vertices)?;
+    fill_edges(edges, &mut given.edges)?;
+    given.faces = vec![in alloc; 0; claim.words.len()]?;
+    Ok(())
 }
 
-fn no_places(alloc: Global, count: usize) -> Result<Vec<String>, AllocError> {
-    let mut places = Vec::new(alloc);
+fn fill_places(alloc: Global, count: usize, places: &mut Vec<String>) -> Result<(), AllocError> {
     for _ in 0..count {
-        places.push(String::from_str(alloc, "0 0 0")?)?;
+        let place = String::from_str(alloc, "0 0 0")?;
+        places.push(place)?;
     }
-    Ok(places)
+    Ok(())
 }
 
-fn no_data(alloc: Global, edges: usize) -> Result<Vec<EdgeData<(), ()>>, AllocError> {
-    let mut data = Vec::new(alloc);
+fn fill_edges(edges: usize, data: &mut Vec<EdgeData<(), ()>>) -> Result<(), AllocError> {
     for _ in 0..edges {
         data.push(EdgeData {
             normalized: (),
@@ -64,44 +75,43 @@ fn no_data(alloc: Global, edges: usize) -> Result<Vec<EdgeData<(), ()>>, AllocEr
             undirected: (),
         })?;
     }
-    Ok(data)
+    Ok(())
 }
 
 /// Looks for a turn in another order than that of `ccw` in the mesh.
-fn check_turns(mesh: &Mesh, claim: &Claim) -> Result<(), Fault> {
+fn check_turns(alloc: Global, mesh: &Mesh, claim: &Claim) -> Result<(), Fault> {
     for (vertex, turn) in claim.turns.iter().enumerate() {
-        check_turn(mesh, turn).map_err(|wrong| Fault::Line {
-            line: claim.line_of(Lines::Turns, vertex),
-            wrong,
-        })?;
+        if let Some((half, after, said)) = other_turn(mesh, turn) {
+            return Err(Fault::Line {
+                line: claim.line_of(Lines::Turns, vertex),
+                wrong: Wrong::text(format!(in alloc;
+                    "after half edge {half} comes half edge {after} by ccw, and not {said}"
+                )),
+            });
+        }
     }
     Ok(())
 }
 
-fn check_turn(mesh: &Mesh, turn: &[u32]) -> Result<(), Wrong> {
+/// Returns a half edge of a turn, what comes after it by `ccw`, and what comes after it in the turn,
+/// if these aren't the same.
+fn other_turn(mesh: &Mesh, turn: &[u32]) -> Option<(u32, usize, u32)> {
     let behind = turn.iter().skip(1).chain(turn.first());
     for (half, said) in turn.iter().zip(behind) {
         let edge = FixedDirectedEdgeHandle::new(*half as usize);
         if let Some(edge) = mesh.get_directed_edge(edge) {
             let after = edge.ccw().index();
             if after != *said as usize {
-                return Err(Wrong::OtherTurn(*half, after, *said));
+                return Some((*half, after, *said));
             }
         }
     }
-    Ok(())
+    None
 }
 
 /// Looks whether the outer face can be one of the surface, if it is said to be.
 fn check_outer(alloc: Global, mesh: &Mesh, claim: &Claim) -> Result<(), Fault> {
-    if claim.closed.is_none() {
-        return Ok(());
-    }
-    let mut corners = Vec::new(alloc);
-    if let Some(face) = mesh.get_face(FixedFaceHandle::<PossiblyOuterTag>::new(0)) {
-        list_corners(face, &mut corners)?;
-    }
-    if corners.len() < 3 || !is_simple(alloc, &corners)? {
+    if claim.closed.is_some() && !can_be_outer(alloc, mesh)? {
         return Err(Fault::Line {
             line: claim.line_of(Lines::Turns, claim.turns.len()),
             wrong: Wrong::NO_OUTER_FACE,
@@ -110,18 +120,29 @@ fn check_outer(alloc: Global, mesh: &Mesh, claim: &Claim) -> Result<(), Fault> {
     Ok(())
 }
 
+/// Returns whether the outer face can be one of the surface.
+fn can_be_outer(alloc: Global, mesh: &Mesh) -> Result<bool, AllocError> {
+    let mut corners = Vec::new(alloc);
+    if let Some(face) = mesh.get_face(FixedFaceHandle::<PossiblyOuterTag>::new(0)) {
+        list_corners(face, &mut corners)?;
+    }
+    if corners.len() < 3 {
+        return Ok(false);
+    }
+    is_simple(alloc, &corners)
+}
+
 /// Returns the reason, with the line that shows it, if one does.
-fn fault_of(reason: LinksError, claim: &Claim, links: &LinkLists) -> Fault {
-    match reason {
-        LinksError::Links(fault) => {
-            let wrong = Wrong::Links(fault);
-            match line_of(fault, claim, links) {
-                Some(line) => Fault::Line { line, wrong },
-                None => Fault::Input(wrong),
-            }
-        }
-        LinksError::OutOfMemory => Fault::OutOfMemory(AllocError),
-        other => Fault::Input(Wrong::Other(other)),
+fn fault_of(alloc: Global, reason: LinksError, claim: &Claim, links: &LinkLists) -> Fault {
+    let fault = match reason {
+        LinksError::Links(fault) => fault,
+        LinksError::OutOfMemory => return Fault::OutOfMemory(AllocError),
+        other => return Fault::Input(Wrong::text(format!(in alloc; "{other}"))),
+    };
+    let wrong = Wrong::text(format!(in alloc; "{fault}"));
+    match line_of(fault, claim, links) {
+        Some(line) => Fault::Line { line, wrong },
+        None => Fault::Input(wrong),
     }
 }
 

@@ -14,7 +14,7 @@ use dcel_predicates::{Point, orient2d};
 use spade_dcel::dcel::Dcel;
 use spade_dcel::handles::{FixedFaceHandle, FixedVertexHandle, InnerTag};
 use std::alloc::Global;
-use thiserror::Error;
+use std::fmt::{self, Formatter};
 
 /// A mesh whose vertices stand in the plane.
 type PlaneMesh = Dcel<Point, (), (), ()>;
@@ -22,38 +22,67 @@ type PlaneMesh = Dcel<Point, (), (), ()>;
 /// Why faces are no Delaunay triangulation of the vertices.
 ///
 /// Vertices and faces are told by their places in the file, from 0 on.
-#[derive(Clone, Copy, Debug, Drop, Error)]
-pub enum Flaw {
+#[derive(Clone, Copy, Drop)]
+enum Flaw {
     /// The first vertex and this one are not at one height.
-    #[error("vertex {0} has another third coordinate than vertex 0")]
     OtherHeight(usize),
     /// A coordinate of this vertex has too many digits.
-    #[error("a coordinate of vertex {0} has too many digits")]
     TooManyDigits(usize),
     /// A coordinate of this vertex is further from 0 than this.
-    #[error("a coordinate of vertex {0} is below -{1} or above {1}")]
     OutOfRange(usize, Decimal),
-    /// There are vertices alone.
-    #[error("there is no face")]
-    NoFace,
     /// This face has more than three corners.
-    #[error("face {0} is no triangle")]
     NoTriangle(usize),
     /// This face is a triangle that goes round clockwise, or whose corners stand on one line.
-    #[error("the corners of face {0} don't go round counterclockwise")]
     NotCounterclockwise(usize),
     /// This vertex is no corner.
-    #[error("vertex {0} has no edge")]
     NoEdge(usize),
     /// The first vertex lies inside the circle of the triangle that the others are.
-    #[error("vertex {0} lies inside the circle through vertices {1}, {2} and {3}")]
     InCircle(usize, usize, usize, usize),
     /// The border turns inwards here, so it is no convex hull.
-    #[error("the border turns in at vertex {0}")]
     TurnsIn(usize),
     /// The border goes back on itself, or round more than once.
-    #[error("the border doesn't go round once")]
     NotOnce,
+}
+
+impl fmt::Display for Flaw {
+    fn fmt<W: fmt::Write>(&self, f: &mut Formatter<W>) -> fmt::Result {
+        match *self {
+            Flaw::OtherHeight(vertex) => {
+                write!(
+                    f,
+                    "vertex {vertex} has another third coordinate than vertex 0"
+                )
+            }
+            Flaw::TooManyDigits(vertex) => {
+                write!(f, "a coordinate of vertex {vertex} has too many digits")
+            }
+            Flaw::OutOfRange(vertex, limit) => {
+                write!(
+                    f,
+                    "a coordinate of vertex {vertex} is below -{limit} or above {limit}"
+                )
+            }
+            Flaw::NoTriangle(face) => write!(f, "face {face} is no triangle"),
+            Flaw::NotCounterclockwise(face) => {
+                write!(
+                    f,
+                    "the corners of face {face} don't go round counterclockwise"
+                )
+            }
+            Flaw::NoEdge(vertex) => write!(f, "vertex {vertex} has no edge"),
+            Flaw::InCircle(vertex, a, b, c) => write!(
+                f,
+                "vertex {vertex} lies inside the circle through vertices {a}, {b} and {c}"
+            ),
+            Flaw::TurnsIn(vertex) => write!(f, "the border turns in at vertex {vertex}"),
+            Flaw::NotOnce => write!(f, "the border doesn't go round once"),
+        }
+    }
+}
+
+/// Returns that a coordinate is out of the range of points, where it is multiplied by this scale.
+fn out_of_range(vertex: usize, scale: Scale) -> Flaw {
+    Flaw::OutOfRange(vertex, Decimal::from_scaled(Point::LIMIT as i64, scale))
 }
 
 /// Tells why the faces are no Delaunay triangulation of the vertices, unless they are one.
@@ -63,57 +92,80 @@ pub enum Flaw {
 pub fn check_delaunay(alloc: Global, surface: &Surface) -> Result<(), Fault> {
     let points = points_of(alloc, surface)?;
     match from_faces(alloc, points, &surface.faces) {
-        Ok(mesh) => check_mesh(surface, &mesh),
+        Ok(mesh) => check_mesh(alloc, surface, &mesh),
         Err(refused) => Err(fault_of(alloc, refused.reason, surface.places.len(), surface)),
     }
 }
 
 /// Tells why a mesh is no Delaunay triangulation of its vertices, unless it is one.
-fn check_mesh(surface: &Surface, mesh: &PlaneMesh) -> Result<(), Fault>
+fn check_mesh(alloc: Global, surface: &Surface, mesh: &PlaneMesh) -> Result<(), Fault>
     ensures is_one { OnOk result (IsDelaunayTriangulation (point_at mesh.now) mesh.now.shape) }
     ensures is_none { OnErr result (¬ IsDelaunayTriangulation (point_at mesh.now) mesh.now.shape) }
 {
     if is_delaunay_triangulation(mesh) {
         Ok(())
     } else {
-        Err(reason_of(surface, mesh))
+        Err(reason_of(alloc, surface, mesh))
     }
 }
 
 /// Returns where the vertices stand, with coordinates that a scale makes whole.
 fn points_of(alloc: Global, surface: &Surface) -> Result<Vec<Point>, Fault> {
-    let coordinates = coordinates_of(alloc, surface)?;
-    // None has more places than a scale makes whole: `coordinate` has refused it.
-    let scale = Scale::least(&coordinates).unwrap_or(Scale::ONE);
+    let mut coordinates = Vec::new(alloc);
+    list_coordinates(alloc, surface, &mut coordinates)?;
     let mut points = Vec::new(alloc);
+    list_points(alloc, surface, &coordinates, &mut points)?;
+    Ok(points)
+}
+
+/// Lists the points that have these coordinates, two each.
+fn list_points(
+    alloc: Global,
+    surface: &Surface,
+    coordinates: &[Decimal],
+    points: &mut Vec<Point>,
+) -> Result<(), Fault> {
+    // None has more places than a scale makes whole: `coordinate` has refused it.
+    let scale = Scale::least(coordinates).unwrap_or(Scale::ONE);
     for (vertex, pair) in coordinates.chunks(2).enumerate() {
         if let &[x, y] = pair {
             let Some(point) = point_at(x, y, scale) else {
-                return Err(at_vertex(surface, vertex, out_of_range(vertex, scale)));
+                return Err(at_vertex(alloc, surface, vertex, out_of_range(vertex, scale)));
             };
             points.push(point)?;
         }
     }
-    Ok(points)
+    Ok(())
 }
 
-/// Returns the first two coordinates of each vertex, if the third one is the same for all.
-fn coordinates_of(alloc: Global, surface: &Surface) -> Result<Vec<Decimal>, Fault> {
-    let mut coordinates = Vec::new(alloc);
+/// Lists the first two coordinates of each vertex, if the third one is the same for all.
+fn list_coordinates(
+    alloc: Global,
+    surface: &Surface,
+    coordinates: &mut Vec<Decimal>,
+) -> Result<(), Fault> {
     let mut height = None;
     for (vertex, place) in surface.places.iter().enumerate() {
-        match place_of(vertex, place.as_str()) {
-            Ok((x, y, z)) => {
-                if *height.get_or_insert(z) != z {
-                    return Err(at_vertex(surface, vertex, Flaw::OtherHeight(vertex)));
-                }
-                coordinates.push(x)?;
-                coordinates.push(y)?;
-            }
-            Err(flaw) => return Err(at_vertex(surface, vertex, flaw)),
-        }
+        let (x, y) = match flat_place(vertex, place.as_str(), &mut height) {
+            Ok(place) => place,
+            Err(flaw) => return Err(at_vertex(alloc, surface, vertex, flaw)),
+        };
+        coordinates.extend_from_slice(&[x, y])?;
     }
-    Ok(coordinates)
+    Ok(())
+}
+
+/// Returns the first two coordinates of a vertex, if the third one is that of the first vertex.
+fn flat_place(
+    vertex: usize,
+    text: &str,
+    height: &mut Option<f64>,
+) -> Result<(Decimal, Decimal), Flaw> {
+    let (x, y, z) = place_of(vertex, text)?;
+    if *height.get_or_insert(z) != z {
+        return Err(Flaw::OtherHeight(vertex));
+    }
+    Ok((x, y))
 }
 
 /// Returns the coordinates of a vertex.
@@ -143,27 +195,22 @@ fn point_at(x: Decimal, y: Decimal, scale: Scale) -> Option<Point> {
     Point::new(x.scaled(scale).ok()?, y.scaled(scale).ok()?)
 }
 
-/// Returns that a coordinate is out of the range of points, where it is multiplied by this scale.
-fn out_of_range(vertex: usize, scale: Scale) -> Flaw {
-    Flaw::OutOfRange(vertex, Decimal::from_scaled(Point::LIMIT as i64, scale))
-}
-
 /// Returns why a mesh is no Delaunay triangulation of its vertices, if it is none.
-fn reason_of(surface: &Surface, mesh: &PlaneMesh) -> Fault {
+fn reason_of(alloc: Global, surface: &Surface, mesh: &PlaneMesh) -> Fault {
     if mesh.num_faces() == 1 {
-        return Fault::Input(Wrong::Flaw(Flaw::NoFace));
+        return Fault::Input(Wrong::Plain("there is no face"));
     }
     if let Some((face, flaw)) = flaw_of_face(mesh) {
-        return at_place(&surface.lines, face, Wrong::Flaw(flaw));
+        return at_place(&surface.lines, face, wrong_of(alloc, flaw));
     }
     if let Some(vertex) = vertex_without_edge(mesh) {
-        return at_vertex(surface, vertex, Flaw::NoEdge(vertex));
+        return at_vertex(alloc, surface, vertex, Flaw::NoEdge(vertex));
     }
     let flaw = match flaw_of_edge(mesh) {
         Some(flaw) => flaw,
         None => flaw_of_border(mesh),
     };
-    Fault::Input(Wrong::Flaw(flaw))
+    Fault::Input(wrong_of(alloc, flaw))
 }
 
 /// Returns the first face that is no counterclockwise triangle, and which of both it isn't.
@@ -235,6 +282,10 @@ fn flaw_of_border(mesh: &PlaneMesh) -> Flaw {
     Flaw::NotOnce
 }
 
-fn at_vertex(surface: &Surface, vertex: usize, flaw: Flaw) -> Fault {
-    at_place(&surface.vertex_lines, vertex, Wrong::Flaw(flaw))
+fn at_vertex(alloc: Global, surface: &Surface, vertex: usize, flaw: Flaw) -> Fault {
+    at_place(&surface.vertex_lines, vertex, wrong_of(alloc, flaw))
+}
+
+fn wrong_of(alloc: Global, flaw: Flaw) -> Wrong {
+    Wrong::text(format!(in alloc; "{flaw}"))
 }

@@ -11,69 +11,50 @@ use std::io::{self, Write};
 const EXTENT: f64 = 10.0;
 
 /// A mesh with places for its vertices.
-#[derive(Drop)]
+#[derive(Clone, Copy)]
 pub struct Drawing<'a> {
     /// The mesh.
     pub mesh: &'a Mesh,
     /// The places.
-    pub places: Places,
+    pub places: &'a Places,
 }
 
-impl<'a> Drawing<'a> {
-    /// Places the vertices of a flat mesh where they lie, if they can be told apart.
-    pub fn at_coordinates(
-        alloc: Global,
-        mesh: &'a Mesh,
-    ) -> Result<Option<Drawing<'a>>, AllocError> {
-        let Some(points) = flat_points(alloc, mesh)? else {
-            return Ok(None);
-        };
-        let Some(vertices) = places_of(alloc, &points)? else {
-            return Ok(None);
-        };
-        let mut places = Places {
-            vertices,
-            bends: Vec::new(alloc),
-        };
-        if !are_apart(mesh, &places) {
-            return Ok(None);
-        }
-        bow(alloc, mesh, None, &mut places)?;
-        Ok(Some(Drawing { mesh, places }))
+/// Places the vertices of a flat mesh where they lie, and returns whether they can be told apart.
+pub fn place_flat(alloc: Global, mesh: &Mesh, places: &mut Places) -> Result<bool, AllocError> {
+    if !list_flat(mesh, &mut places.vertices)? || !fit(&mut places.vertices) {
+        return Ok(false);
     }
-
-    /// Finds places for the vertices.
-    pub fn spread_out(alloc: Global, mesh: &'a Mesh) -> Result<Drawing<'a>, AllocError> {
-        let places = spread(alloc, mesh, None)?;
-        Ok(Drawing { mesh, places })
+    if !are_apart(mesh, places) {
+        return Ok(false);
     }
+    bow(alloc, mesh, None, places)?;
+    Ok(true)
 }
 
 impl<'a> Text for Drawing<'a> {
     fn write_to(&self, alloc: Global, writer: &mut impl Write) -> io::Result<()> {
-        let picture = Picture::new(alloc, self.mesh, None, &self.places)?;
+        let picture = Picture::new(alloc, self.mesh, None, self.places)?;
         write_svg(&picture, Style::HalfEdges { anchors: false }, writer)
     }
 }
 
-/// Returns where the vertices lie, if all lie at one height.
-fn flat_points(alloc: Global, mesh: &Mesh) -> Result<Option<Vec<Place>>, AllocError> {
-    let mut points = Vec::new(alloc);
+/// Lists where the vertices lie, and returns whether all lie at one height.
+fn list_flat(mesh: &Mesh, places: &mut Vec<Option<Place>>) -> Result<bool, AllocError> {
     let mut height = None;
     for vertex in mesh.vertices() {
-        let Some((point, z)) = point_of(vertex.data().as_str()) else {
-            return Ok(None);
+        let Some((place, z)) = place_of(vertex.data().as_str()) else {
+            return Ok(false);
         };
         if *height.get_or_insert(z) != z {
-            return Ok(None);
+            return Ok(false);
         }
-        points.push(point)?;
+        places.push(Some(place))?;
     }
-    Ok(Some(points))
+    Ok(true)
 }
 
 /// Returns the first two coordinates as a place, and the third one.
-fn point_of(text: &str) -> Option<(Place, f64)> {
+fn place_of(text: &str) -> Option<(Place, f64)> {
     let mut words = text.split_ascii_whitespace();
     let x = words.next()?.parse::<f64>().ok()?;
     let y = words.next()?.parse::<f64>().ok()?;
@@ -81,27 +62,32 @@ fn point_of(text: &str) -> Option<(Place, f64)> {
     Some((Place::new(x, y), z))
 }
 
-/// Moves and scales points so that they fit, unless all are one.
-fn places_of(alloc: Global, points: &[Place]) -> Result<Option<Vec<Option<Place>>>, AllocError> {
+/// Moves and scales places so that they fit, unless all are one.
+fn fit(places: &mut [Option<Place>]) -> bool {
+    let (low, high) = corners_of(places);
+    let extent = (high.x - low.x).max(high.y - low.y);
+    if !extent.is_finite() || extent <= 0.0 {
+        return false;
+    }
+    for place in places.iter_mut().flatten() {
+        let x = (place.x - low.x) / extent * EXTENT;
+        let y = (place.y - low.y) / extent * EXTENT;
+        *place = Place::new(x, y);
+    }
+    true
+}
+
+/// Returns the lower left and the upper right corner of the box round places.
+fn corners_of(places: &[Option<Place>]) -> (Place, Place) {
     let (mut low, mut high) = (
         Place::new(f64::INFINITY, f64::INFINITY),
         Place::new(f64::NEG_INFINITY, f64::NEG_INFINITY),
     );
-    for point in points {
-        low = Place::new(low.x.min(point.x), low.y.min(point.y));
-        high = Place::new(high.x.max(point.x), high.y.max(point.y));
+    for place in places.iter().flatten() {
+        low = Place::new(low.x.min(place.x), low.y.min(place.y));
+        high = Place::new(high.x.max(place.x), high.y.max(place.y));
     }
-    let extent = (high.x - low.x).max(high.y - low.y);
-    if !extent.is_finite() || extent <= 0.0 {
-        return Ok(None);
-    }
-    let mut places = Vec::new(alloc);
-    for point in points {
-        let x = (point.x - low.x) / extent * EXTENT;
-        let y = (point.y - low.y) / extent * EXTENT;
-        places.push(Some(Place::new(x, y)))?;
-    }
-    Ok(Some(places))
+    (low, high)
 }
 
 /// Returns whether the ends of each edge have different places.

@@ -1,64 +1,23 @@
 //! Why the program gives up.
 
-use crate::claim::Lines;
-use crate::delaunay_check::Flaw;
+use crate::shown::shown;
 use crate::stats::Stats;
-use dcel_exchange::FacesError;
-use spade_dcel::operations::{LinksError, LinksFault};
-use std::alloc::AllocError;
+use std::alloc::{AllocError, Global};
+use std::fmt::{self, Debug, Display, Formatter};
 use thiserror::Error;
 
 /// Why the program gives up.
 pub type Fault = dcel_programs::Fault<Wrong>;
 
 /// What is wrong with a file.
-#[derive(Debug, Drop, Error)]
+#[derive(Drop, Error)]
 pub enum Wrong {
-    /// What one sentence tells.
+    /// What a sentence says of any file.
     #[error(transparent)]
     Plain(&'static str),
-    /// The first word isn't `OFF`.
-    #[error("the file begins with '{0}', and not with OFF")]
-    OtherWord(String),
-    /// It is that of a kind of OFF.
-    #[error("the file begins with '{0}', and OFF is read with three coordinates alone")]
-    OtherOff(String),
-    /// It is that of another format, which an argument asks for.
-    #[error("this looks like {0}, and not like OFF: --from {1} reads it")]
-    LooksLike(&'static str, &'static str),
-    /// The first word isn't `ply`.
-    #[error("the file begins with '{0}', and not with ply")]
-    NoPly(String),
-    /// The word of this face should stand there.
-    #[error("the word of face {0} is missing, a line that begins with F{0}")]
-    NoWord(usize),
-    /// The half edges out of this vertex should stand there.
-    #[error("the half edges out of vertex {0} are missing, a line that begins with out")]
-    NoTurn(usize),
-    /// This half edge is above those that the count of edges allows.
-    #[error("there is no half edge {0}")]
-    NoHalfEdge(u32),
-    /// This half edge stands in the lines of a kind already.
-    #[error("half edge {0} stands twice in the {1}")]
-    Twice(u32, Lines),
-    /// This half edge stands in no line of a kind, and by the count of edges there is one.
-    #[error("half edge {0} stands nowhere in the {1}")]
-    Nowhere(usize, Lines),
-    /// After the first half edge comes the second by `ccw`, and the third in the line.
-    #[error("after half edge {0} comes half edge {1} by ccw, and not {2}")]
-    OtherTurn(u32, usize, u32),
-    /// The faces are no mesh.
+    /// What a sentence says of this file.
     #[error(transparent)]
-    Faces(FacesError),
-    /// The words are no mesh.
-    #[error(transparent)]
-    Links(LinksFault),
-    /// No mesh was made of the words for a reason that their lines can't give.
-    #[error(transparent)]
-    Other(LinksError),
-    /// The faces are no Delaunay triangulation.
-    #[error(transparent)]
-    Flaw(Flaw),
+    Text(String),
     /// The surface as a whole is none that is taken.
     #[error("the surface has {0}; taken is one part, of genus 0, with at most one border")]
     Surface(Stats),
@@ -66,6 +25,44 @@ pub enum Wrong {
     #[error("out of memory")]
     OutOfMemory(#[from(alloc)] AllocError),
 }
+
+impl Debug for Wrong {
+    fn fmt<W: fmt::Write>(&self, f: &mut Formatter<W>) -> fmt::Result {
+        Display::fmt(self, f)
+    }
+}
+
+impl Wrong {
+    /// Makes it of a sentence, for which there may have been no memory.
+    pub fn text(sentence: Result<String, AllocError>) -> Wrong {
+        match sentence {
+            Ok(sentence) => Wrong::Text(sentence),
+            Err(error) => Wrong::OutOfMemory(error),
+        }
+    }
+
+    /// Makes it of a sentence and the word of the file that it is about.
+    pub fn quoting(alloc: Global, sentence: &str, word: &str) -> Wrong {
+        match shown(alloc, word) {
+            Ok(word) => Wrong::text(format!(in alloc; "{sentence}: '{word}'")),
+            Err(error) => Wrong::OutOfMemory(error),
+        }
+    }
+
+    /// Makes it of what a file begins with, and what is to be said of that.
+    pub fn beginning(alloc: Global, word: &str, rest: &str) -> Wrong {
+        match shown(alloc, word) {
+            Ok(word) => Wrong::text(format!(in alloc; "the file begins with '{word}', and {rest}")),
+            Err(error) => Wrong::OutOfMemory(error),
+        }
+    }
+}
+
+/// A number is not written as one, or out of range.
+pub const NO_NUMBER: &str = "a number is not written as one, or out of range";
+
+/// A coordinate is no number, or none that is finite.
+pub const NO_COORDINATE: &str = "a coordinate is no number";
 
 impl Wrong {
     /// There is no first word of OFF.
@@ -95,11 +92,8 @@ impl Wrong {
     /// Something is missing.
     pub const TOO_FEW: Wrong = Wrong::Plain("there are too few numbers");
 
-    /// A number is not written as one, or out of range.
-    pub const NO_NUMBER: Wrong = Wrong::Plain("a number is not written as one, or out of range");
-
-    /// A coordinate is no number, or none that is finite.
-    pub const NO_COORDINATE: Wrong = Wrong::Plain("a coordinate is no number");
+    /// A number is out of range.
+    pub const NO_NUMBER: Wrong = Wrong::Plain(NO_NUMBER);
 
     /// The first line of a file of words has no counts.
     pub const NO_COUNTS: Wrong = Wrong::Plain(

@@ -1,7 +1,6 @@
 //! The first word of a file in the Object File Format.
 
 use crate::fault::Wrong;
-use crate::shown::shown;
 use std::alloc::Global;
 
 /// The first words that are known, with how many numbers each vertex has behind its coordinates:
@@ -31,27 +30,34 @@ pub fn extras_of(alloc: Global, first: &str) -> Result<usize, Wrong> {
             }
         }
     }
-    Err(fault_of(alloc, first)?)
+    Err(fault_of(alloc, first))
 }
 
-fn fault_of(alloc: Global, first: &str) -> Result<Wrong, Wrong> {
+/// The first words of other formats, with the formats.
+const OTHERS: [(&str, &str, &str); 2] = [("ply", "PLY", "ply"), ("vertices", "words", "words")];
+
+fn fault_of(alloc: Global, first: &str) -> Wrong {
     if OBJ_WORDS.contains(&first) {
-        return Ok(Wrong::LooksLike("OBJ", "obj"));
+        return looks_like(alloc, "OBJ", "obj");
     }
-    if first == "ply" {
-        return Ok(Wrong::LooksLike("PLY", "ply"));
-    }
-    if first == "vertices" {
-        return Ok(Wrong::LooksLike("words", "words"));
+    for (known, format, name) in OTHERS {
+        if first == known {
+            return looks_like(alloc, format, name);
+        }
     }
     if first == "solid" {
-        return Ok(Wrong::STL);
+        return Wrong::STL;
     }
-    let name = shown(alloc, first)?;
     if is_other_off(first) {
-        return Ok(Wrong::OtherOff(name));
+        return Wrong::beginning(alloc, first, "OFF is read with three coordinates alone");
     }
-    Ok(Wrong::OtherWord(name))
+    Wrong::beginning(alloc, first, "not with OFF")
+}
+
+fn looks_like(alloc: Global, format: &str, name: &str) -> Wrong {
+    Wrong::text(format!(in alloc;
+        "this looks like {format}, and not like OFF: --from {name} reads it"
+    ))
 }
 
 /// Returns whether it is a kind of OFF, as `4OFF` and `nOFF`.

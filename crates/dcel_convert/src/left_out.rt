@@ -59,13 +59,19 @@ impl LeftOut {
 
     /// Names on standard error what is left out, and how often.
     pub fn tell(&self, rt: &(impl Eprint + AllocGlobal)) -> io::Result<()> {
-        for (word, lines) in self.words.iter() {
-            let name = shown(rt.alloc(), word)?;
-            tell_left_out(rt, name.as_str(), *lines)?;
-        }
+        self.tell_words(rt)?;
         tell_left_out(rt, "lines that begin with still other words", self.others)?;
-        for (what, times) in self.kinds.iter() {
+        for (what, times) in &self.kinds {
             tell_left_out(rt, what, *times)?;
+        }
+        Ok(())
+    }
+
+    /// Names the words that nothing is known of.
+    fn tell_words(&self, rt: &(impl Eprint + AllocGlobal)) -> io::Result<()> {
+        for (word, lines) in &self.words {
+            let name = shown(rt.alloc(), word.as_str())?;
+            tell_left_out(rt, name.as_str(), *lines)?;
         }
         Ok(())
     }

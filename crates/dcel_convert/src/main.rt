@@ -29,17 +29,18 @@ mod writing;
 
 use crate::arguments::{Arguments, Format, Output, PROGRAM};
 use crate::claim::Claim;
-use crate::claimed::claimed_mesh;
+use crate::claimed::{check, claimed_mesh};
 use crate::delaunay_check::check_delaunay;
-use crate::drawing::{Drawing, place_vertices};
+use crate::drawing::{Drawing, place_flat, place_vertices};
 use crate::fault::{Fault, Wrong};
 use crate::left_out::tell_left_out;
-use crate::meshing::Solid;
-use crate::reading::{Content, read_file};
+use crate::meshing::{Mesh, Solid};
+use crate::reading::{read_claim, read_surface};
 use crate::stats::Stats;
 use crate::surface::Surface;
 use crate::writing::Written;
 use dcel_programs::{Progress, run, write_out};
+use dcel_svg::{Places, spread};
 use std::process::ExitCode;
 use std::rt::Files;
 
@@ -56,24 +57,38 @@ fn convert(
     progress: Progress,
     arguments: &Arguments,
 ) -> Result<(), Fault> {
-    match read_file(rt, progress, arguments)? {
-        Content::Faces(surface) => convert_faces(rt, arguments, surface),
-        Content::Words(claim) => convert_words(rt, arguments, &claim),
+    if arguments.format == Format::Words {
+        let mut claim = Claim::new(rt.alloc());
+        convert_words(rt, progress, arguments, &mut claim)
+    } else {
+        let mut surface = Surface::new(rt.alloc());
+        convert_faces(rt, progress, arguments, &mut surface)
     }
 }
 
-/// Makes the mesh of faces, and writes what is asked for.
+/// Reads faces, makes their mesh, and writes what is asked for.
 fn convert_faces(
+    rt: &(impl Files + Input + Print + Eprint + AllocGlobal),
+    progress: Progress,
+    arguments: &Arguments,
+    surface: &mut Surface,
+) -> Result<(), Fault> {
+    read_surface(rt, progress, arguments, surface)?;
+    tell_of_surface(rt, arguments, surface)?;
+    if arguments.output == Output::CheckDelaunay {
+        return check_delaunay(rt.alloc(), surface);
+    }
+    convert_surface(rt, arguments, surface)
+}
+
+/// Makes the mesh of a surface, and writes what is asked for.
+fn convert_surface(
     rt: &(impl Files + Print + Eprint + AllocGlobal),
     arguments: &Arguments,
-    surface: Surface,
+    surface: &mut Surface,
 ) -> Result<(), Fault> {
-    tell_of_surface(rt, arguments, &surface)?;
-    if arguments.output == Output::CheckDelaunay {
-        return check_delaunay(rt.alloc(), &surface);
-    }
     match Solid::of(rt.alloc(), surface) {
-        Ok(solid) => write_faces(rt, arguments, &solid),
+        Ok(mut solid) => write_faces(rt, arguments, surface, &mut solid),
         Err(fault) => refuse_faces(rt, arguments, fault),
     }
 }
@@ -112,8 +127,10 @@ fn refuse_faces(
 fn write_faces(
     rt: &(impl Files + Print + Eprint + AllocGlobal),
     arguments: &Arguments,
-    solid: &Solid,
+    surface: &Surface,
+    solid: &mut Solid,
 ) -> Result<(), Fault> {
+    solid.mark(rt.alloc(), &surface.faces)?;
     if arguments.output != Output::Check {
         if let Some(place) = solid.outer {
             eprintln!(rt;
@@ -129,17 +146,32 @@ fn write_faces(
 
 const COORDINATES: &str = "a vertex's coordinates";
 
-/// Makes the mesh of words, and writes what is asked for.
+/// Reads words, makes their mesh, and writes what is asked for.
 fn convert_words(
+    rt: &(impl Files + Input + Print + Eprint + AllocGlobal),
+    progress: Progress,
+    arguments: &Arguments,
+    claim: &mut Claim,
+) -> Result<(), Fault> {
+    read_claim(rt, progress, arguments, claim)?;
+    match claimed_mesh(rt.alloc(), claim) {
+        Ok(mut solid) => write_claimed(rt, arguments, claim, &mut solid),
+        Err(fault) => Err(fault),
+    }
+}
+
+/// Writes what is asked for of a mesh of words, if it is as these claim.
+fn write_claimed(
     rt: &(impl Files + Print + Eprint + AllocGlobal),
     arguments: &Arguments,
     claim: &Claim,
+    solid: &mut Solid,
 ) -> Result<(), Fault> {
-    let mut solid = claimed_mesh(rt.alloc(), claim)?;
+    check(rt.alloc(), &solid.mesh, claim)?;
     if let Output::Mesh(Format::Off | Format::Obj | Format::Ply) = arguments.output {
-        set_places(rt, arguments, &mut solid)?;
+        set_places(rt, arguments, solid)?;
     }
-    write_solid(rt, arguments, &solid)
+    write_solid(rt, arguments, solid)
 }
 
 /// Finds coordinates for the vertices of words, if these are asked for, and else tells that they have
@@ -173,7 +205,7 @@ fn write_solid(
         // Faces are checked before, so these are words.
         Output::CheckDelaunay => Err(Fault::Input(Wrong::NO_COORDINATES)),
         Output::Stats => write_out(rt, arguments.target, &Stats::of_mesh(solid)),
-        Output::Svg => draw(rt, arguments, solid),
+        Output::Svg => draw(rt, arguments, &solid.mesh),
         Output::Mesh(format) => write_out(rt, arguments.target, &Written { format, solid }),
     }
 }
@@ -182,14 +214,27 @@ fn write_solid(
 fn draw(
     rt: &(impl Files + Print + Eprint + AllocGlobal),
     arguments: &Arguments,
-    solid: &Solid,
+    mesh: &Mesh,
 ) -> Result<(), Fault> {
-    if let Some(drawing) = Drawing::at_coordinates(rt.alloc(), &solid.mesh)? {
-        return write_out(rt, arguments.target, &drawing);
+    let mut places = Places {
+        vertices: Vec::new(rt.alloc()),
+        bends: Vec::new(rt.alloc()),
+    };
+    draw_at(rt, arguments, mesh, &mut places)
+}
+
+/// Draws a mesh at places that are to be found.
+fn draw_at(
+    rt: &(impl Files + Print + Eprint + AllocGlobal),
+    arguments: &Arguments,
+    mesh: &Mesh,
+    places: &mut Places,
+) -> Result<(), Fault> {
+    if !place_flat(rt.alloc(), mesh, places)? {
+        if arguments.format != Format::Words {
+            tell_left_out(rt, COORDINATES, mesh.num_vertices())?;
+        }
+        *places = spread(rt.alloc(), mesh, None)?;
     }
-    if arguments.format != Format::Words {
-        tell_left_out(rt, COORDINATES, solid.mesh.num_vertices())?;
-    }
-    let drawing = Drawing::spread_out(rt.alloc(), &solid.mesh)?;
-    write_out(rt, arguments.target, &drawing)
+    write_out(rt, arguments.target, &Drawing { mesh, places })
 }

@@ -6,7 +6,7 @@ ghost use Rattle.dcel_maps.specs.Shapes.{face_count};
 use crate::fault::{Fault, Wrong};
 use crate::stats::Stats;
 use crate::surface::Surface;
-use dcel_exchange::{FacesError, from_faces};
+use dcel_exchange::{ClosedFacesError, FacesError, from_closed_faces, from_faces};
 use spade_dcel::dcel::Dcel;
 use spade_dcel::handles::{FaceHandle, FixedFaceHandle, PossiblyOuterTag, VertexHandle};
 use spade_dcel::operations::LinksFault;
@@ -34,16 +34,12 @@ pub struct Solid {
 }
 
 impl Solid {
-    /// Makes the mesh of a surface. A surface without a border lends the first face that comes to
-    /// no vertex twice as the outer one.
-    pub fn of(alloc: Global, mut surface: Surface) -> Result<Solid, Fault> {
-        Solid::taken_from(alloc, &mut surface)
-    }
-
-    fn taken_from(alloc: Global, surface: &mut Surface) -> Result<Solid, Fault> {
+    /// Makes the mesh of a surface, which loses its places. A surface without a border lends the
+    /// first face that comes to no vertex twice as the outer one.
+    pub fn of(alloc: Global, surface: &mut Surface) -> Result<Solid, Fault> {
         let places = mem::replace(&mut surface.places, Vec::new(alloc));
         match from_faces(alloc, places, &surface.faces) {
-            Ok(mesh) => Solid::marked(alloc, mesh, None, &[], &surface.faces),
+            Ok(mesh) => Ok(Solid { mesh, outer: None }),
             Err(refused) if refused.reason == FacesError::Closed => {
                 Solid::closed(alloc, refused.back, surface)
             }
@@ -52,33 +48,38 @@ impl Solid {
     }
 
     /// Makes the mesh of a surface without a border.
-    fn closed(alloc: Global, places: Vec<String>, surface: &mut Surface) -> Result<Solid, Fault> {
-        let place = simple_face(alloc, &surface.faces)?;
-        if place >= surface.faces.len() || place >= surface.lines.len() {
-            return Err(Fault::Input(Wrong::NO_BORDER));
-        }
-        let corners = surface.faces.remove(place);
-        let _ = surface.lines.remove(place);
-        match from_faces(alloc, places, &surface.faces) {
-            Ok(mesh) => Solid::marked(alloc, mesh, Some(place), &corners, &surface.faces),
-            Err(refused) => {
-                surface.faces.push(corners)?;
-                Err(fault_of(alloc, refused.reason, refused.back.len(), surface))
-            }
+    fn closed(alloc: Global, places: Vec<String>, surface: &Surface) -> Result<Solid, Fault> {
+        let outer = match simple_face(alloc, &surface.faces) {
+            Ok(Some(outer)) => outer,
+            Ok(None) => return Err(Fault::Input(Wrong::NO_BORDER)),
+            Err(error) => return Err(Fault::OutOfMemory(error)),
+        };
+        match from_closed_faces(alloc, places, &surface.faces, outer) {
+            Ok(mesh) => Ok(Solid {
+                mesh,
+                outer: Some(outer),
+            }),
+            Err(refused) => match refused.reason {
+                ClosedFacesError::Others(reason) => {
+                    Err(fault_of(alloc, reason, refused.back.len(), surface))
+                }
+                _ => Err(Fault::Input(Wrong::NO_BORDER)),
+            },
         }
     }
 
-    /// Notes at each face of a mesh where the list of the file begins, also at the outer one.
-    fn marked(
-        alloc: Global,
-        mesh: Mesh,
-        outer: Option<usize>,
-        corners: &[u32],
-        faces: &[Vec<u32>],
-    ) -> Result<Solid, Fault> {
-        let mut solid = Solid { mesh, outer };
-        mark_all(alloc, &mut solid.mesh, corners, faces)?;
-        Ok(solid)
+    /// Notes at each face where the list of the file begins.
+    pub fn mark(&mut self, alloc: Global, faces: &[Vec<u32>]) -> Result<(), AllocError> {
+        let mut corners = Vec::new(alloc);
+        for (place, listed) in faces.iter().enumerate() {
+            mark(
+                &mut self.mesh,
+                number_at(self.outer, place),
+                listed,
+                &mut corners,
+            )?;
+        }
+        Ok(())
     }
 }
 
@@ -108,17 +109,22 @@ impl Solid {
 
     /// Returns the face that has this place in the file, if there is one.
     pub fn face(&self, place: usize) -> Option<Face<'_>> {
-        let number = match self.outer {
-            Some(outer) if place == outer => 0,
-            Some(outer) if place > outer => place,
-            _ => place.saturating_add(1),
-        };
+        let number = number_at(self.outer, place);
         if number < self.mesh.num_faces() {
             self.mesh
                 .get_face(FixedFaceHandle::<PossiblyOuterTag>::new(number))
         } else {
             None
         }
+    }
+}
+
+/// Returns the number of the face that has this place in the file, where the outer face has that one.
+fn number_at(outer: Option<usize>, place: usize) -> usize {
+    match outer {
+        Some(outer) if place == outer => 0,
+        Some(outer) if place > outer => place,
+        _ => place.saturating_add(1),
     }
 }
 
@@ -175,22 +181,6 @@ fn rotate(list: &mut Vec<usize>, before: usize) {
     }
 }
 
-/// Notes at each face where the list of the file begins: the outer one, and the inner ones in their
-/// order.
-fn mark_all(
-    alloc: Global,
-    mesh: &mut Mesh,
-    outer: &[u32],
-    faces: &[Vec<u32>],
-) -> Result<(), AllocError> {
-    let mut corners = Vec::new(alloc);
-    mark(mesh, 0, outer, &mut corners)?;
-    for (place, listed) in faces.iter().enumerate() {
-        mark(mesh, place.saturating_add(1), listed, &mut corners)?;
-    }
-    Ok(())
-}
-
 /// Notes at a face where the list of the file begins.
 fn mark(
     mesh: &mut Mesh,
@@ -235,30 +225,33 @@ fn begins_after(steps: usize, listed: &[u32], corners: &[usize]) -> bool {
 }
 
 /// Returns the place of the first face that comes to no vertex twice.
-fn simple_face(alloc: Global, faces: &[Vec<u32>]) -> Result<usize, Fault> {
+fn simple_face(alloc: Global, faces: &[Vec<u32>]) -> Result<Option<usize>, AllocError> {
     for (place, corners) in faces.iter().enumerate() {
         if is_simple(alloc, corners)? {
-            return Ok(place);
+            return Ok(Some(place));
         }
     }
-    Err(Fault::Input(Wrong::NO_BORDER))
+    Ok(None)
 }
 
 /// Returns whether no two of the corners are one vertex.
 pub fn is_simple<T: Copy + Ord + Drop>(alloc: Global, corners: &[T]) -> Result<bool, AllocError> {
     let mut sorted = Vec::new(alloc);
-    for corner in corners {
-        sorted.push(*corner)?;
-    }
+    sorted.extend_from_slice(corners)?;
     sorted.sort()?;
+    Ok(!repeats(&sorted))
+}
+
+/// Returns whether an item of a list follows an equal one.
+fn repeats<T: Copy + Ord>(list: &[T]) -> bool {
     let mut last = None;
-    for corner in sorted {
-        if last == Some(corner) {
-            return Ok(false);
+    for item in list {
+        if last == Some(*item) {
+            return true;
         }
-        last = Some(corner);
+        last = Some(*item);
     }
-    Ok(true)
+    false
 }
 
 /// Returns the reason, with the line of the face that it names, if it names one. If the surface as
@@ -273,9 +266,13 @@ pub fn fault_of(alloc: Global, reason: FacesError, vertices: usize, surface: &Su
         | FacesError::Links(LinksFault::NotSphere(_)) => {
             return fault_of_whole(alloc, vertices, &surface.faces);
         }
-        _ => return Fault::Input(Wrong::Faces(reason)),
+        _ => return Fault::Input(Wrong::text(format!(in alloc; "{reason}"))),
     };
-    at_place(&surface.lines, face, Wrong::Faces(reason))
+    at_place(
+        &surface.lines,
+        face,
+        Wrong::text(format!(in alloc; "{reason}")),
+    )
 }
 
 /// Tells what a surface as a whole is.

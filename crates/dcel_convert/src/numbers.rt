@@ -3,7 +3,7 @@
 use crate::fault::Wrong;
 use crate::reading::number;
 use crate::surface::{BEHIND_COORDINATES, Surface, add_coordinate};
-use std::alloc::Global;
+use std::alloc::{AllocError, Global};
 use std::mem;
 
 /// A vertex or a face of which some numbers are read.
@@ -53,19 +53,27 @@ impl NumberReader {
             self.behind -= 1;
             return Ok(());
         }
-        if self.coordinates > 0 {
-            self.place.push_str(" ")?;
-        }
-        add_coordinate(&mut self.place, word)?;
+        add_coordinate(alloc, &mut self.place, word)?;
         self.coordinates = self.coordinates.saturating_add(1);
         if self.coordinates == 3 {
-            let place = mem::replace(&mut self.place, String::new(alloc));
-            surface.add_place(line, place)?;
-            self.coordinates = 0;
-            self.behind = self.extras;
-            if self.extras > 0 {
-                surface.left_out.note(BEHIND_COORDINATES)?;
-            }
+            self.end_vertex(alloc, line, surface)?;
+        }
+        Ok(())
+    }
+
+    /// Adds a vertex that is complete to the surface.
+    fn end_vertex(
+        &mut self,
+        alloc: Global,
+        line: usize,
+        surface: &mut Surface,
+    ) -> Result<(), AllocError> {
+        let place = mem::replace(&mut self.place, String::new(alloc));
+        surface.add_place(line, place)?;
+        self.coordinates = 0;
+        self.behind = self.extras;
+        if self.extras > 0 {
+            surface.left_out.note(BEHIND_COORDINATES)?;
         }
         Ok(())
     }
@@ -78,7 +86,7 @@ impl NumberReader {
         word: &str,
         surface: &mut Surface,
     ) -> Result<(), Wrong> {
-        let number = number(word)?;
+        let number = number(alloc, word)?;
         let missing = match self.missing {
             None => number,
             Some(missing) => {

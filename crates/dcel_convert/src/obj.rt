@@ -1,9 +1,10 @@
 //! Wavefront's OBJ files: lines that begin with a word, `v` for a vertex and `f` for a face.
 
-use crate::fault::Wrong;
-use crate::reading::number;
+use crate::fault::{NO_NUMBER, Wrong};
+use crate::reading::{LineReader, number_of};
 use crate::surface::Surface;
-use std::alloc::Global;
+use dcel_programs::before_comment;
+use std::alloc::{AllocError, Global};
 use std::str::SplitAsciiWhitespace;
 
 /// An OBJ file that is read line by line.
@@ -26,15 +27,17 @@ impl ObjReader {
             joined: String::new(alloc),
         }
     }
+}
 
-    /// Reads a line, and adds what it says to the surface once it is complete.
-    pub fn take(
+impl LineReader<Surface> for ObjReader {
+    fn take(
         &mut self,
         alloc: Global,
         line: usize,
         text: &str,
         surface: &mut Surface,
     ) -> Result<(), Wrong> {
+        let text = before_comment(text);
         let (text, goes_on) = match text.trim_ascii_end().strip_suffix('\\') {
             Some(before) => (before, true),
             None => (text, false),
@@ -42,12 +45,7 @@ impl ObjReader {
         if !self.is_open && !goes_on {
             return take_line(alloc, line, text, surface);
         }
-        if !self.is_open {
-            self.first = line;
-            self.joined.clear();
-        }
-        self.joined.push_str(text)?;
-        self.joined.push_str(" ")?;
+        self.join(line, text)?;
         self.is_open = goes_on;
         if goes_on {
             return Ok(());
@@ -56,10 +54,23 @@ impl ObjReader {
     }
 
     /// Reads what was begun, if the last line ends in `\`.
-    pub fn end(&self, alloc: Global, surface: &mut Surface) -> Result<(), Wrong> {
+    fn end(&mut self, alloc: Global, surface: &mut Surface) -> Result<(), Wrong> {
         if self.is_open {
             return take_line(alloc, self.first, self.joined.as_str(), surface);
         }
+        Ok(())
+    }
+}
+
+impl ObjReader {
+    /// Begins a line with this text, or goes on with it.
+    fn join(&mut self, line: usize, text: &str) -> Result<(), AllocError> {
+        if !self.is_open {
+            self.first = line;
+            self.joined.clear();
+        }
+        self.joined.push_str(text)?;
+        self.joined.push_str(" ")?;
         Ok(())
     }
 }
@@ -85,9 +96,9 @@ fn take_vertex(
     mut words: SplitAsciiWhitespace,
     surface: &mut Surface,
 ) -> Result<(), Wrong> {
-    let x = words.next().ok_or(Wrong::TOO_FEW)?;
-    let y = words.next().ok_or(Wrong::TOO_FEW)?;
-    let z = words.next().ok_or(Wrong::TOO_FEW)?;
+    let (Some(x), Some(y), Some(z)) = (words.next(), words.next(), words.next()) else {
+        return Err(Wrong::TOO_FEW);
+    };
     surface.take_vertex(alloc, line, [x, y, z], words)
 }
 
@@ -99,6 +110,21 @@ fn take_face(
     surface: &mut Surface,
 ) -> Result<(), Wrong> {
     let mut corners = Vec::new(alloc);
+    let is_more = take_corners(alloc, words, surface.places.len(), &mut corners)?;
+    surface.add_face(line, corners)?;
+    if is_more {
+        surface.left_out.note("what follows a corner's slash")?;
+    }
+    Ok(())
+}
+
+/// Reads corners, and returns whether one has a slash.
+fn take_corners(
+    alloc: Global,
+    words: SplitAsciiWhitespace,
+    vertices: usize,
+    corners: &mut Vec<u32>,
+) -> Result<bool, Wrong> {
     let mut is_more = false;
     for word in words {
         let corner = match word.split_once('/') {
@@ -108,25 +134,25 @@ fn take_face(
             }
             None => word,
         };
-        corners.push(vertex_of(corner, surface.places.len())?)?;
+        let Some(vertex) = vertex_of(corner, vertices) else {
+            return Err(Wrong::quoting(alloc, NO_NUMBER, corner));
+        };
+        corners.push(vertex)?;
     }
-    surface.add_face(line, corners)?;
-    if is_more {
-        surface.left_out.note("what follows a corner's slash")?;
-    }
-    Ok(())
+    Ok(is_more)
 }
 
 /// Returns the number of a vertex, from 0 on. A file counts from 1, and below 0 back from the last
 /// one: -1 is that one, so -0 is none.
-fn vertex_of(word: &str, vertices: usize) -> Result<u32, Wrong> {
+fn vertex_of(word: &str, vertices: usize) -> Option<u32> {
     match word.strip_prefix('-') {
-        None => number(word)?.checked_sub(1).ok_or(Wrong::NO_NUMBER),
+        None => number_of(word)?.checked_sub(1),
         Some(back) => {
-            let behind = number(back)?.checked_sub(1).ok_or(Wrong::NO_NUMBER)?;
-            let last = vertices.checked_sub(1).ok_or(Wrong::NO_NUMBER)?;
-            let place = last.checked_sub(behind as usize).ok_or(Wrong::NO_NUMBER)?;
-            u32::try_from(place).map_err(|_| Wrong::NO_NUMBER)
+            let place = vertices.checked_sub(number_of(back)? as usize)?;
+            if place >= vertices {
+                return None;
+            }
+            u32::try_from(place).ok()
         }
     }
 }

@@ -3,8 +3,9 @@
 use crate::fault::Wrong;
 use crate::header::extras_of;
 use crate::numbers::NumberReader;
-use crate::reading::number;
+use crate::reading::{LineReader, number};
 use crate::surface::{BEHIND_CORNERS, Surface};
+use dcel_programs::before_comment;
 use std::alloc::Global;
 use std::str::SplitAsciiWhitespace;
 
@@ -50,31 +51,27 @@ impl OffReader {
             numbers: NumberReader::new(alloc),
         }
     }
+}
 
-    /// Reads a line, and adds what it says to the surface.
-    pub fn take(
+impl LineReader<Surface> for OffReader {
+    fn take(
         &mut self,
         alloc: Global,
         line: usize,
         text: &str,
         surface: &mut Surface,
     ) -> Result<(), Wrong> {
-        let mut words = text.split_ascii_whitespace();
-        match self.stage {
-            Stage::Elements => self.take_elements(alloc, line, words, surface),
-            Stage::Word => match words.next() {
-                Some(first) => self.take_word(alloc, first, words),
-                None => Ok(()),
-            },
-            Stage::Counts => match words.next() {
-                Some(first) => self.take_counts(first, words),
-                None => Ok(()),
-            },
+        let mut words = before_comment(text).split_ascii_whitespace();
+        if let Stage::Elements = self.stage {
+            return self.take_elements(alloc, line, words, surface);
+        }
+        match words.next() {
+            Some(first) => self.take_head(alloc, first, words),
+            None => Ok(()),
         }
     }
 
-    /// Tells whether the file may end here.
-    pub fn end(&self, surface: &Surface) -> Result<(), Wrong> {
+    fn end(&mut self, _: Global, surface: &mut Surface) -> Result<(), Wrong> {
         match self.stage {
             Stage::Word => Err(Wrong::NO_OFF),
             Stage::Counts => Err(Wrong::TOO_FEW),
@@ -84,6 +81,21 @@ impl OffReader {
                 }
                 Ok(())
             }
+        }
+    }
+}
+
+impl OffReader {
+    /// Reads a line before the elements that has this first word.
+    fn take_head(
+        &mut self,
+        alloc: Global,
+        first: &str,
+        words: SplitAsciiWhitespace,
+    ) -> Result<(), Wrong> {
+        match self.stage {
+            Stage::Word => self.take_word(alloc, first, words),
+            _ => self.take_counts(alloc, first, words),
         }
     }
 
@@ -98,15 +110,23 @@ impl OffReader {
         self.stage = Stage::Counts;
         match words.next() {
             Some("BINARY") => Err(Wrong::BINARY_OFF),
-            Some(count) => self.take_counts(count, words),
+            Some(count) => self.take_counts(alloc, count, words),
             None => Ok(()),
         }
     }
 
     /// Reads the counts of vertices and faces. That of edges, if it is there, may be any number.
-    fn take_counts(&mut self, first: &str, mut words: SplitAsciiWhitespace) -> Result<(), Wrong> {
-        self.vertices = number(first)? as usize;
-        self.faces = number(words.next().ok_or(Wrong::TOO_FEW)?)? as usize;
+    fn take_counts(
+        &mut self,
+        alloc: Global,
+        first: &str,
+        mut words: SplitAsciiWhitespace,
+    ) -> Result<(), Wrong> {
+        self.vertices = number(alloc, first)? as usize;
+        let Some(second) = words.next() else {
+            return Err(Wrong::TOO_FEW);
+        };
+        self.faces = number(alloc, second)? as usize;
         self.stage = Stage::Elements;
         Ok(())
     }
@@ -123,16 +143,27 @@ impl OffReader {
             Layout::Lines => self.take_element(alloc, line, words, surface),
             Layout::Numbers => {
                 for word in words {
-                    if surface.places.len() < self.vertices || self.numbers.is_behind() {
-                        self.numbers.take_of_vertex(alloc, line, word, surface)?;
-                    } else if surface.faces.len() < self.faces {
-                        self.numbers.take_of_face(alloc, line, word, surface)?;
-                    } else {
-                        return Err(Wrong::MORE_LINES);
-                    }
+                    self.take_number(alloc, line, word, surface)?;
                 }
                 Ok(())
             }
+        }
+    }
+
+    /// Reads a number of a vertex or a face.
+    fn take_number(
+        &mut self,
+        alloc: Global,
+        line: usize,
+        word: &str,
+        surface: &mut Surface,
+    ) -> Result<(), Wrong> {
+        if surface.places.len() < self.vertices || self.numbers.is_behind() {
+            self.numbers.take_of_vertex(alloc, line, word, surface)
+        } else if surface.faces.len() < self.faces {
+            self.numbers.take_of_face(alloc, line, word, surface)
+        } else {
+            Err(Wrong::MORE_LINES)
         }
     }
 
@@ -148,8 +179,9 @@ impl OffReader {
             return Ok(());
         };
         if surface.places.len() < self.vertices {
-            let y = words.next().ok_or(Wrong::TOO_FEW)?;
-            let z = words.next().ok_or(Wrong::TOO_FEW)?;
+            let (Some(y), Some(z)) = (words.next(), words.next()) else {
+                return Err(Wrong::TOO_FEW);
+            };
             surface.take_vertex(alloc, line, [first, y, z], words)
         } else if surface.faces.len() < self.faces {
             take_face(alloc, line, first, words, surface)
@@ -168,12 +200,26 @@ fn take_face(
     surface: &mut Surface,
 ) -> Result<(), Wrong> {
     let mut corners = Vec::new(alloc);
-    for _ in 0..number(count)? {
-        corners.push(number(words.next().ok_or(Wrong::TOO_FEW)?)?)?;
-    }
+    take_corners(alloc, count, &mut words, &mut corners)?;
     surface.add_face(line, corners)?;
     if words.next().is_some() {
         surface.left_out.note(BEHIND_CORNERS)?;
+    }
+    Ok(())
+}
+
+/// Reads so many corners.
+fn take_corners(
+    alloc: Global,
+    count: &str,
+    words: &mut SplitAsciiWhitespace,
+    corners: &mut Vec<u32>,
+) -> Result<(), Wrong> {
+    for _ in 0..number(alloc, count)? {
+        let Some(word) = words.next() else {
+            return Err(Wrong::TOO_FEW);
+        };
+        corners.push(number(alloc, word)?)?;
     }
     Ok(())
 }

@@ -1,46 +1,15 @@
-//! Files in the Polygon File Format, as text: a header that says which numbers each element has,
-//! and then these, wherever lines end.
+//! Files in the Polygon File Format: a header that says which numbers each element has, and then
+//! these, as text, wherever lines end.
+
+mod header;
 
 use crate::fault::Wrong;
-use crate::reading::number;
-use crate::shown::shown;
+use crate::ply::header::{Element, Kind, Property, Purpose, element_of, is_complete, property_of};
+use crate::reading::{LineReader, number};
 use crate::surface::{BEHIND_COORDINATES, BEHIND_CORNERS, Surface};
-use std::alloc::Global;
+use std::alloc::{AllocError, Global};
 use std::mem;
 use std::str::SplitAsciiWhitespace;
-
-/// What the numbers of a property are.
-#[derive(Clone, Copy, PartialEq, Eq, Drop)]
-enum Purpose {
-    X,
-    Y,
-    Z,
-    Corners,
-    LeftOut,
-}
-
-/// A property of an element: a number, or a list, which begins with its length.
-#[derive(Clone, Copy, Drop)]
-struct Property {
-    purpose: Purpose,
-    is_list: bool,
-}
-
-/// What an element is.
-#[derive(Clone, Copy, Drop)]
-enum Kind {
-    Vertex,
-    Face,
-    Other,
-}
-
-/// Elements of a kind.
-#[derive(Drop)]
-struct Element {
-    kind: Kind,
-    count: u32,
-    properties: Vec<Property>,
-}
 
 /// What the next line of a file should be.
 #[derive(Clone, Copy, PartialEq, Eq, Drop)]
@@ -88,54 +57,49 @@ impl PlyReader {
             corners: Vec::new(alloc),
         }
     }
+}
 
-    /// Reads a line, and adds what it says to the surface.
-    pub fn take(
+impl LineReader<Surface> for PlyReader {
+    fn take(
         &mut self,
         alloc: Global,
         line: usize,
         text: &str,
         surface: &mut Surface,
     ) -> Result<(), Wrong> {
-        let mut words = text.split_ascii_whitespace();
+        let words = text.split_ascii_whitespace();
         match self.stage {
-            Stage::Elements => {
-                for word in words {
-                    self.take_number(alloc, line, word, surface)?;
-                }
-                Ok(())
-            }
-            Stage::Word => match words.next() {
-                Some("ply") => {
-                    self.stage = Stage::Header;
-                    Ok(())
-                }
-                Some(other) => Err(Wrong::NoPly(shown(alloc, other)?)),
-                None => Ok(()),
-            },
+            Stage::Elements => self.take_numbers(alloc, line, words, surface),
+            Stage::Word => self.take_word(alloc, words),
             Stage::Header => self.take_header(alloc, words),
         }
     }
 
-    /// Tells whether the file may end here.
-    pub fn end(&self) -> Result<(), Wrong> {
+    fn end(&mut self, _: Global, _: &mut Surface) -> Result<(), Wrong> {
         if self.stage != Stage::Elements || !self.elements.is_empty() {
             return Err(Wrong::FEWER_LINES);
         }
         Ok(())
     }
+}
+
+impl PlyReader {
+    /// Reads the first word of a file.
+    fn take_word(&mut self, alloc: Global, mut words: SplitAsciiWhitespace) -> Result<(), Wrong> {
+        match words.next() {
+            Some("ply") => {
+                self.stage = Stage::Header;
+                Ok(())
+            }
+            Some(other) => Err(Wrong::beginning(alloc, other, "not with ply")),
+            None => Ok(()),
+        }
+    }
 
     /// Reads a line of the header.
     fn take_header(&mut self, alloc: Global, mut words: SplitAsciiWhitespace) -> Result<(), Wrong> {
         match words.next() {
-            Some("format") => match words.next() {
-                Some("ascii") => {
-                    self.has_format = true;
-                    Ok(())
-                }
-                Some("binary_little_endian") | Some("binary_big_endian") => Err(Wrong::BINARY_PLY),
-                _ => Err(Wrong::NO_HEADER),
-            },
+            Some("format") => self.take_format(words),
             Some("element") => self.take_element(alloc, words),
             Some("property") => self.take_property(words),
             Some("end_header") => self.end_header(),
@@ -144,40 +108,32 @@ impl PlyReader {
         }
     }
 
+    /// Reads whether the numbers are text.
+    fn take_format(&mut self, mut words: SplitAsciiWhitespace) -> Result<(), Wrong> {
+        match words.next() {
+            Some("ascii") => {
+                self.has_format = true;
+                Ok(())
+            }
+            Some("binary_little_endian") | Some("binary_big_endian") => Err(Wrong::BINARY_PLY),
+            _ => Err(Wrong::NO_HEADER),
+        }
+    }
+
     /// Reads the name and the count of elements.
-    fn take_element(
-        &mut self,
-        alloc: Global,
-        mut words: SplitAsciiWhitespace,
-    ) -> Result<(), Wrong> {
-        let kind = match words.next().ok_or(Wrong::NO_HEADER)? {
-            "vertex" => Kind::Vertex,
-            "face" => Kind::Face,
-            _ => Kind::Other,
-        };
-        let count = number(words.next().ok_or(Wrong::NO_HEADER)?)?;
-        self.elements.push(Element {
-            kind,
-            count,
-            properties: Vec::new(alloc),
-        })?;
+    fn take_element(&mut self, alloc: Global, words: SplitAsciiWhitespace) -> Result<(), Wrong> {
+        let element = element_of(alloc, words)?;
+        self.elements.push(element)?;
         Ok(())
     }
 
     /// Reads a property of the last element.
-    fn take_property(&mut self, mut words: SplitAsciiWhitespace) -> Result<(), Wrong> {
-        let is_list = words.next().ok_or(Wrong::NO_HEADER)? == "list";
-        if is_list {
-            let _ = words.next().ok_or(Wrong::NO_HEADER)?;
-            let _ = words.next().ok_or(Wrong::NO_HEADER)?;
-        }
-        let name = words.next().ok_or(Wrong::NO_HEADER)?;
+    fn take_property(&mut self, words: SplitAsciiWhitespace) -> Result<(), Wrong> {
         let Some(element) = self.elements.last_mut() else {
             return Err(Wrong::NO_HEADER);
         };
-        let property = Property {
-            purpose: purpose_of(element.kind, is_list, name),
-            is_list,
+        let Some(property) = property_of(element.kind, words) else {
+            return Err(Wrong::NO_HEADER);
         };
         element.properties.push(property)?;
         Ok(())
@@ -185,13 +141,8 @@ impl PlyReader {
 
     /// Ends the header: vertices need three coordinates, faces their corners.
     fn end_header(&mut self) -> Result<(), Wrong> {
-        if !self.has_format {
+        if !self.has_format || !self.elements.iter().all(is_complete) {
             return Err(Wrong::PARTIAL_HEADER);
-        }
-        for element in &self.elements {
-            if !is_complete(element) {
-                return Err(Wrong::PARTIAL_HEADER);
-            }
         }
         self.elements.reverse();
         self.stage = Stage::Elements;
@@ -213,6 +164,20 @@ impl PlyReader {
         }
     }
 
+    /// Reads numbers.
+    fn take_numbers(
+        &mut self,
+        alloc: Global,
+        line: usize,
+        words: SplitAsciiWhitespace,
+        surface: &mut Surface,
+    ) -> Result<(), Wrong> {
+        for word in words {
+            self.take_number(alloc, line, word, surface)?;
+        }
+        Ok(())
+    }
+
     /// Reads a number.
     fn take_number(
         &mut self,
@@ -228,64 +193,58 @@ impl PlyReader {
         let Some(property) = element.properties.get(self.place).copied() else {
             return Err(Wrong::MORE_LINES);
         };
-        if self.take_of(alloc, property, word)? {
+        self.take_of(alloc, property, word)?;
+        if self.missing.is_none() {
             self.place = self.place.saturating_add(1);
-            if self.place >= count {
-                self.add(alloc, kind, line, surface)?;
-            }
+        }
+        if self.place >= count {
+            return self.end_element(alloc, kind, line, surface);
         }
         Ok(())
     }
 
-    /// Reads a number of a property, and returns whether the property is complete.
-    fn take_of(&mut self, alloc: Global, property: Property, word: &str) -> Result<bool, Wrong> {
-        if !property.is_list {
-            let text = String::from_str(alloc, word)?;
-            match property.purpose {
-                Purpose::X => self.x = text,
-                Purpose::Y => self.y = text,
-                Purpose::Z => self.z = text,
-                _ => (),
-            }
-            return Ok(true);
+    /// Reads a number of a property.
+    fn take_of(&mut self, alloc: Global, property: Property, word: &str) -> Result<(), Wrong> {
+        if property.is_list {
+            return self.take_of_list(alloc, property.purpose, word);
         }
+        let text = match property.purpose {
+            Purpose::X => &mut self.x,
+            Purpose::Y => &mut self.y,
+            Purpose::Z => &mut self.z,
+            _ => return Ok(()),
+        };
+        text.clear();
+        text.push_str(word)?;
+        Ok(())
+    }
+
+    /// Reads the length of a list, or one of its numbers.
+    fn take_of_list(&mut self, alloc: Global, purpose: Purpose, word: &str) -> Result<(), Wrong> {
         let missing = match self.missing {
-            None => number(word)?,
+            None => number(alloc, word)?,
             Some(missing) => {
-                if property.purpose == Purpose::Corners {
-                    self.corners.push(number(word)?)?;
+                if purpose == Purpose::Corners {
+                    self.corners.push(number(alloc, word)?)?;
                 }
                 missing.saturating_sub(1)
             }
         };
         self.missing = if missing > 0 { Some(missing) } else { None };
-        Ok(missing == 0)
+        Ok(())
     }
 
     /// Adds an element that is complete to the surface.
-    fn add(
+    fn end_element(
         &mut self,
         alloc: Global,
         kind: Kind,
         line: usize,
         surface: &mut Surface,
     ) -> Result<(), Wrong> {
-        let has_more = self.place > needed(kind);
         match kind {
-            Kind::Vertex => {
-                let place = [self.x.as_str(), self.y.as_str(), self.z.as_str()];
-                surface.add_vertex(alloc, line, place)?;
-                if has_more {
-                    surface.left_out.note(BEHIND_COORDINATES)?;
-                }
-            }
-            Kind::Face => {
-                let corners = mem::replace(&mut self.corners, Vec::new(alloc));
-                surface.add_face(line, corners)?;
-                if has_more {
-                    surface.left_out.note(BEHIND_CORNERS)?;
-                }
-            }
+            Kind::Vertex => self.add_vertex(alloc, line, surface)?,
+            Kind::Face => self.add_face(alloc, line, surface)?,
             Kind::Other => surface
                 .left_out
                 .note("an element that is no vertex and no face")?,
@@ -295,50 +254,29 @@ impl PlyReader {
         self.pass_complete();
         Ok(())
     }
-}
 
-/// Returns how many properties of an element are read.
-fn needed(kind: Kind) -> usize {
-    match kind {
-        Kind::Vertex => 3,
-        Kind::Face => 1,
-        Kind::Other => 0,
-    }
-}
-
-/// Returns what a property of this name is read as.
-fn purpose_of(kind: Kind, is_list: bool, name: &str) -> Purpose {
-    match (kind, is_list, name) {
-        (Kind::Vertex, false, "x") => Purpose::X,
-        (Kind::Vertex, false, "y") => Purpose::Y,
-        (Kind::Vertex, false, "z") => Purpose::Z,
-        (Kind::Face, true, "vertex_indices") | (Kind::Face, true, "vertex_index") => {
-            Purpose::Corners
+    /// Adds a vertex. Three of its properties are read.
+    fn add_vertex(&self, alloc: Global, line: usize, surface: &mut Surface) -> Result<(), Wrong> {
+        let place = [self.x.as_str(), self.y.as_str(), self.z.as_str()];
+        surface.add_vertex(alloc, line, place)?;
+        if self.place > 3 {
+            surface.left_out.note(BEHIND_COORDINATES)?;
         }
-        _ => Purpose::LeftOut,
+        Ok(())
     }
-}
 
-/// Returns whether elements have once each what is read of them.
-fn is_complete(element: &Element) -> bool {
-    match element.kind {
-        Kind::Vertex => {
-            count_of(element, Purpose::X) == 1
-                && count_of(element, Purpose::Y) == 1
-                && count_of(element, Purpose::Z) == 1
+    /// Adds a face. One of its properties is read.
+    fn add_face(
+        &mut self,
+        alloc: Global,
+        line: usize,
+        surface: &mut Surface,
+    ) -> Result<(), AllocError> {
+        let corners = mem::replace(&mut self.corners, Vec::new(alloc));
+        surface.add_face(line, corners)?;
+        if self.place > 1 {
+            surface.left_out.note(BEHIND_CORNERS)?;
         }
-        Kind::Face => count_of(element, Purpose::Corners) == 1,
-        Kind::Other => true,
+        Ok(())
     }
-}
-
-/// Counts the properties that are read as this.
-fn count_of(element: &Element, purpose: Purpose) -> usize {
-    let mut count: usize = 0;
-    for property in &element.properties {
-        if property.purpose == purpose {
-            count = count.saturating_add(1);
-        }
-    }
-    count
 }

@@ -8,7 +8,7 @@ use std::io::{self, Write};
 
 /// How much a surface has of what. Borders and the genus are those of a surface on which each side
 /// belongs to one face, and the corners of each vertex are one turn.
-#[derive(Clone, Copy, Debug, Drop)]
+#[derive(Clone, Copy, Drop)]
 pub struct Stats {
     /// How many vertices there are, those without a face too.
     pub vertices: usize,
@@ -45,12 +45,18 @@ fn plural(count: usize) -> &'static str {
 
 impl Text for Stats {
     fn write_to(&self, _: Global, writer: &mut impl Write) -> io::Result<()> {
-        writeln!(writer, "vertices {}", self.vertices)?;
-        writeln!(writer, "edges {}", self.edges)?;
-        writeln!(writer, "faces {}", self.faces)?;
-        writeln!(writer, "parts {}", self.parts)?;
-        writeln!(writer, "borders {}", self.borders)?;
-        writeln!(writer, "genus {}", self.genus)
+        let rows = [
+            ("vertices", self.vertices),
+            ("edges", self.edges),
+            ("faces", self.faces),
+            ("parts", self.parts),
+            ("borders", self.borders),
+            ("genus", self.genus),
+        ];
+        for (name, count) in rows {
+            writeln!(writer, "{name} {count}")?;
+        }
+        Ok(())
     }
 }
 
@@ -75,18 +81,30 @@ impl Stats {
         vertices: usize,
         faces: &[Vec<u32>],
     ) -> Result<Stats, AllocError> {
-        let sides = sorted_sides(alloc, faces)?;
-        let edges = count_edges(alloc, &sides)?;
-        let borders = count_borders(alloc, vertices, &sides)?;
-        let (used, parts) = count_parts(alloc, vertices, &sides)?;
+        let mut sides = Vec::new(alloc);
+        list_sides(faces, &mut sides)?;
+        sides.sort()?;
+        Stats::of_sides(alloc, vertices, faces.len(), &sides)
+    }
+
+    /// Tells it of so many faces by their sides, in order.
+    fn of_sides(
+        alloc: Global,
+        vertices: usize,
+        faces: usize,
+        sides: &[(u32, u32)],
+    ) -> Result<Stats, AllocError> {
+        let edges = count_edges(alloc, sides)?;
+        let borders = count_borders(alloc, vertices, sides)?;
+        let (used, parts) = count_parts(alloc, vertices, sides)?;
         // Vertices with a face, minus edges, plus faces, are twice the parts, minus the borders,
         // minus twice the genus.
         let above = edges.saturating_add(parts.saturating_mul(2));
-        let below = used.saturating_add(faces.len()).saturating_add(borders);
+        let below = used.saturating_add(faces).saturating_add(borders);
         Ok(Stats {
             vertices,
             edges,
-            faces: faces.len(),
+            faces,
             parts,
             borders,
             genus: above.saturating_sub(below) / 2,
@@ -94,17 +112,15 @@ impl Stats {
     }
 }
 
-/// Lists from where to where the sides of faces lead, in order.
-fn sorted_sides(alloc: Global, faces: &[Vec<u32>]) -> Result<Vec<(u32, u32)>, AllocError> {
-    let mut sides = Vec::new(alloc);
+/// Lists from where to where the sides of faces lead.
+fn list_sides(faces: &[Vec<u32>], sides: &mut Vec<(u32, u32)>) -> Result<(), AllocError> {
     for corners in faces {
         let behind = corners.iter().skip(1).chain(corners.first());
         for (from, to) in corners.iter().zip(behind) {
             sides.push((*from, *to))?;
         }
     }
-    sides.sort()?;
-    Ok(sides)
+    Ok(())
 }
 
 /// Counts the edges that sides belong to.
@@ -125,13 +141,7 @@ fn count_borders(
     sides: &[(u32, u32)],
 ) -> Result<usize, AllocError> {
     let mut before = vec![in alloc; None; vertices]?;
-    for (from, to) in sides {
-        if sides.binary_search(&(*to, *from)).is_err() {
-            if let Some(side) = before.get_mut(*to as usize) {
-                *side = Some(*from);
-            }
-        }
-    }
+    note_borders(sides, &mut before);
     let mut count: usize = 0;
     for vertex in 0..vertices {
         if take_loop(vertex, &mut before) {
@@ -139,6 +149,17 @@ fn count_borders(
         }
     }
     Ok(count)
+}
+
+/// Notes at each vertex the start of a side to it that no other one leads back from.
+fn note_borders(sides: &[(u32, u32)], before: &mut [Option<u32>]) {
+    for (from, to) in sides {
+        if sides.binary_search(&(*to, *from)).is_err() {
+            if let Some(side) = before.get_mut(*to as usize) {
+                *side = Some(*from);
+            }
+        }
+    }
 }
 
 /// Takes out the loop that leads from a vertex, if there is one.

@@ -1,6 +1,6 @@
 //! What a file says: vertices, faces, and what is left out.
 
-use crate::fault::Wrong;
+use crate::fault::{NO_COORDINATE, Wrong};
 use crate::left_out::LeftOut;
 use std::alloc::{AllocError, Global};
 use std::str::SplitAsciiWhitespace;
@@ -55,13 +55,8 @@ impl Surface {
         line: usize,
         coordinates: [&str; 3],
     ) -> Result<(), Wrong> {
-        let [x, y, z] = coordinates;
         let mut place = String::new(alloc);
-        add_coordinate(&mut place, x)?;
-        place.push_str(" ")?;
-        add_coordinate(&mut place, y)?;
-        place.push_str(" ")?;
-        add_coordinate(&mut place, z)?;
+        add_coordinates(alloc, &mut place, coordinates)?;
         self.add_place(line, place)?;
         Ok(())
     }
@@ -87,12 +82,30 @@ pub const BEHIND_COORDINATES: &str = "what follows a vertex's coordinates";
 /// What is left out behind a face's corners.
 pub const BEHIND_CORNERS: &str = "what follows a face's corners";
 
+/// Adds three coordinates to a place.
+fn add_coordinates(alloc: Global, place: &mut String, coordinates: [&str; 3]) -> Result<(), Wrong> {
+    for word in coordinates {
+        add_coordinate(alloc, place, word)?;
+    }
+    Ok(())
+}
+
 /// Adds a coordinate to a place, if it is a number that is finite.
-pub fn add_coordinate(place: &mut String, word: &str) -> Result<(), Wrong> {
-    let number = word.parse::<f64>().map_err(|_| Wrong::NO_COORDINATE)?;
-    if !number.is_finite() {
-        return Err(Wrong::NO_COORDINATE);
+pub fn add_coordinate(alloc: Global, place: &mut String, word: &str) -> Result<(), Wrong> {
+    if !is_finite(word) {
+        return Err(Wrong::quoting(alloc, NO_COORDINATE, word));
+    }
+    if !place.is_empty() {
+        place.push_str(" ")?;
     }
     place.push_str(word)?;
     Ok(())
+}
+
+/// Returns whether a word is a number that is finite.
+fn is_finite(word: &str) -> bool {
+    match word.parse::<f64>() {
+        Ok(number) => number.is_finite(),
+        Err(_) => false,
+    }
 }

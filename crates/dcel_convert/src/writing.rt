@@ -28,25 +28,23 @@ impl<'a> Text for Written<'a> {
 
 /// Writes the mesh in the Object File Format.
 fn write_off(alloc: Global, writer: &mut impl Write, solid: &Solid) -> io::Result<()> {
-    writeln!(writer, "OFF")?;
-    writeln!(
-        writer,
-        "{} {} 0",
-        solid.mesh.num_vertices(),
-        solid.num_faces()
-    )?;
+    let (vertices, faces) = (solid.mesh.num_vertices(), solid.num_faces());
+    writeln!(writer, "OFF\n{vertices} {faces} 0")?;
     write_elements(alloc, writer, solid)
 }
 
 /// Writes the mesh as PLY.
 fn write_ply(alloc: Global, writer: &mut impl Write, solid: &Solid) -> io::Result<()> {
-    writeln!(writer, "ply\nformat ascii 1.0")?;
-    writeln!(writer, "element vertex {}", solid.mesh.num_vertices())?;
-    for axis in ["x", "y", "z"] {
-        writeln!(writer, "property double {axis}")?;
-    }
-    writeln!(writer, "element face {}", solid.num_faces())?;
-    writeln!(writer, "property list int int vertex_indices\nend_header")?;
+    let (vertices, faces) = (solid.mesh.num_vertices(), solid.num_faces());
+    writeln!(writer, "ply\nformat ascii 1.0\nelement vertex {vertices}")?;
+    writeln!(
+        writer,
+        "property double x\nproperty double y\nproperty double z"
+    )?;
+    writeln!(
+        writer,
+        "element face {faces}\nproperty list int int vertex_indices\nend_header"
+    )?;
     write_elements(alloc, writer, solid)
 }
 
@@ -55,15 +53,7 @@ fn write_elements(alloc: Global, writer: &mut impl Write, solid: &Solid) -> io::
     for vertex in solid.mesh.vertices() {
         writeln!(writer, "{}", vertex.data())?;
     }
-    let mut corners = Vec::new(alloc);
-    for place in 0..solid.num_faces() {
-        if let Some(face) = solid.face(place) {
-            list_corners(face, &mut corners)?;
-            write!(writer, "{}", corners.len())?;
-            write_numbers(writer, &corners, 0)?;
-        }
-    }
-    Ok(())
+    write_faces(alloc, writer, solid, Row::Counted)
 }
 
 /// Writes the mesh as OBJ, which counts vertices from 1.
@@ -71,15 +61,42 @@ fn write_obj(alloc: Global, writer: &mut impl Write, solid: &Solid) -> io::Resul
     for vertex in solid.mesh.vertices() {
         writeln!(writer, "v {}", vertex.data())?;
     }
+    write_faces(alloc, writer, solid, Row::Named)
+}
+
+/// How a line has a face.
+#[derive(Clone, Copy)]
+enum Row {
+    /// How many corners it has, and these, from 0 on.
+    Counted,
+    /// The letter f, and the corners, from 1 on.
+    Named,
+}
+
+/// Writes a line for each face.
+fn write_faces(alloc: Global, writer: &mut impl Write, solid: &Solid, row: Row) -> io::Result<()> {
     let mut corners = Vec::new(alloc);
     for place in 0..solid.num_faces() {
         if let Some(face) = solid.face(place) {
             list_corners(face, &mut corners)?;
-            write!(writer, "f")?;
-            write_numbers(writer, &corners, 1)?;
+            write_row(writer, &corners, row)?;
         }
     }
     Ok(())
+}
+
+/// Writes the line of a face.
+fn write_row(writer: &mut impl Write, corners: &[usize], row: Row) -> io::Result<()> {
+    match row {
+        Row::Counted => {
+            write!(writer, "{}", corners.len())?;
+            write_numbers(writer, corners, 0)
+        }
+        Row::Named => {
+            write!(writer, "f")?;
+            write_numbers(writer, corners, 1)
+        }
+    }
 }
 
 /// Writes the counts, the word of each face, and the half edges out of each vertex. If the outer

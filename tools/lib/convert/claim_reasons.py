@@ -46,7 +46,7 @@ def genus(claim):
 # Before the links: what may be said, and whether that is so of a line.
 OF_LINES = [
     (r"the file doesn't begin with 'vertices N edges N faces N'", lambda c, line: line == 1 and c.counts is None),
-    (r"a number is not written as one, or out of range",
+    (r"a number is not written as one, or out of range: '[^']*'",
      lambda c, line: (c.counts is None if line == 1 else numbers_of(tokens(c, line)) is None)),
     (r"the word of face (\d+) is missing, a line that begins with F\1",
      lambda c, line, face: line == face + 2 and face < c.faces and is_misnamed(c, line)),

@@ -19,7 +19,7 @@ REASONS = [
     (r"the surface has (\d+) parts?, (\d+) borders?, genus (\d+); taken is one part, of genus 0, with at most one border",
      None, lambda s, *counts: counts == s.kind() and (counts[0] > 1 or counts[1] > 1 or counts[2] > 0)),
 ]
-UNREADABLE = "a number is not written as one, or out of range"
+UNREADABLE = r"a number is not written as one, or out of range: '(.*)'"
 
 
 def holds(surface, words):
@@ -28,8 +28,8 @@ def holds(surface, words):
     if not found:
         return False
     line, said = found.groups()
-    if said == UNREADABLE:
-        return line in {str(surface.line_of(place)) for place in surface.unreadable()}
+    if found := re.fullmatch(UNREADABLE, said):
+        return line in {str(surface.line_of(place)) for place in surface.unreadable() if found[1] in map(str, surface.faces[place])}
     for pattern, named, check in REASONS:
         if found := re.fullmatch(pattern, said):
             numbers = [int(number) for number in found.groups()]
