@@ -333,19 +333,19 @@ fn loads_are_refused_memory(rt: HostRuntime) -> Result<(), Fail> {
     refuse_loads(&memory, rt.alloc())
 }
 
-/// A thousand points, each to the right of the one before it.
-fn thousand_points(alloc: Global) -> Result<Vec<Point>, Fail> {
+/// Five thousand points, each to the right of the one before it.
+fn many_points(alloc: Global) -> Result<Vec<Point>, Fail> {
     let mut points = Vec::new(alloc);
-    for index in 0..1000i64 {
+    for index in 0..5000i64 {
         points.push(point(index, index.wrapping_mul(index) % 1013)?)?;
     }
     Ok(points)
 }
 
 /// Segments from each of them to the next one, which don't cross.
-fn thousand_segments(alloc: Global) -> Result<Vec<Segment>, AllocError> {
+fn many_segments(alloc: Global) -> Result<Vec<Segment>, AllocError> {
     let mut segments = Vec::new(alloc);
-    for from in 0..999usize {
+    for from in 0..4999usize {
         let to = from.wrapping_add(1);
         segments.push(Segment { from, to })?;
     }
@@ -353,16 +353,16 @@ fn thousand_segments(alloc: Global) -> Result<Vec<Segment>, AllocError> {
 }
 
 #[test]
-fn a_thousand_points_are_loaded(rt: HostRuntime) -> Result<(), Fail> {
-    let points = thousand_points(rt.alloc())?;
-    let mut segments = thousand_segments(rt.alloc())?;
+fn thousands_of_points_are_loaded(rt: HostRuntime) -> Result<(), Fail> {
+    let points = many_points(rt.alloc())?;
+    let mut segments = many_segments(rt.alloc())?;
     let found = loaded(&points, &segments, rt.alloc());
-    holds(found == Ok((1000, 999, true)), "all edges are marked")?;
+    holds(found == Ok((5000, 4999, true)), "all edges are marked")?;
     // From the first to the last one, across others.
-    segments.push(Segment { from: 0, to: 999 })?;
+    segments.push(Segment { from: 0, to: 4999 })?;
     let found = loaded(&points, &segments, rt.alloc());
     holds(
-        found == Err(LoadError::Crosses(999)),
+        found == Err(LoadError::Crosses(4999)),
         "the last one crosses",
     )
 }

@@ -216,13 +216,13 @@ fn lists_are_those_of_small_triangulations(rt: HostRuntime) -> Result<(), Fail> 
     Ok(())
 }
 
-/// A thousand points, no two of which are one.
-fn thousand_places(alloc: Global) -> Result<Vec<Place>, AllocError> {
+/// Five thousand points, no two of which are one.
+fn many_places(alloc: Global) -> Result<Vec<Place>, AllocError> {
     let mut places = Vec::new(alloc);
-    for index in 0..1000i64 {
+    for index in 0..5000i64 {
         let (x, y) = (
-            index.wrapping_mul(619) % 1009,
-            index.wrapping_mul(index) % 1013,
+            index.wrapping_mul(619) % 5009,
+            index.wrapping_mul(index) % 5011,
         );
         places.push((x, y))?;
     }
@@ -296,8 +296,8 @@ fn check_places(places: &[Place], alloc: Global) -> Result<(), Fail> {
 }
 
 #[test]
-fn lists_of_a_thousand_points_fit_together(rt: HostRuntime) -> Result<(), Fail> {
-    let places = thousand_places(rt.alloc())?;
+fn lists_of_thousands_of_points_fit_together(rt: HostRuntime) -> Result<(), Fail> {
+    let places = many_places(rt.alloc())?;
     check_places(&places, rt.alloc())?;
     check_places(&HUB, rt.alloc())
 }

@@ -142,13 +142,13 @@ fn an_order_of_a_cluster_has_each_number(rt: HostRuntime) -> Result<(), Fail> {
     check_order(&points, rt.alloc())
 }
 
-/// Returns a thousand points, some of them equal.
-fn thousand_points(alloc: Global) -> Result<Vec<Point>, Fail> {
+/// Returns five thousand points, half of them equal to others.
+fn many_points(alloc: Global) -> Result<Vec<Point>, Fail> {
     let mut points = Vec::new(alloc);
-    for index in 0..1000i64 {
+    for index in 0..5000i64 {
         let (x, y) = (
-            index.wrapping_mul(379) % 997,
-            index.wrapping_mul(index) % 991,
+            index.wrapping_mul(379) % 2503,
+            index.wrapping_mul(index) % 2503,
         );
         points.push(point(x, y)?)?;
     }
@@ -163,13 +163,13 @@ fn count_triangles(points: &[Point], alloc: Global) -> Result<usize, Fail> {
 
 fn check_triangles(points: &[Point], alloc: Global) -> Result<(), Fail> {
     let wanted = count_triangles(points, alloc)?;
-    holds(wanted > 1000, "there are many triangles")?;
+    holds(wanted > 4096, "there are many triangles")?;
     let found = length(triangulate(alloc, points))?;
     same(found, wanted, "triangles")
 }
 
 #[test]
-fn triangles_of_a_thousand_points_are_listed(rt: HostRuntime) -> Result<(), Fail> {
-    let points = thousand_points(rt.alloc())?;
+fn triangles_of_thousands_of_points_are_listed(rt: HostRuntime) -> Result<(), Fail> {
+    let points = many_points(rt.alloc())?;
     check_triangles(&points, rt.alloc())
 }
