@@ -134,6 +134,7 @@ class Given(unittest.TestCase):
         ]:
             with self.subTest(corners=corners, counts=counts):
                 self.assertEqual(self.fault(Dcel.from_faces, [0] * 4, corners, counts), fault)
+        self.assertEqual(self.fault(Dcel.from_faces, [0] * 5, [0, 1, 2, 0, 3, 4], COUNTS), (FaultKind.BORDER_TWICE, 0, 0, 0, 0))
 
     def test_numbers_without_a_place(self) -> None:
         for given in ([2**64], [0], [0]), ([0], [2**32], [0]), ([0], [0], [-1]):

@@ -1,4 +1,4 @@
-"""Meshes that are closed, copied, dropped, shared by threads, and shown."""
+"""Meshes that are closed, copied, dropped, shared by threads, and shown, and large ones."""
 
 from __future__ import annotations
 
@@ -6,6 +6,7 @@ import copy
 import gc
 import os
 import pickle
+import random
 import resource
 import subprocess
 import sys
@@ -14,9 +15,11 @@ import unittest
 import weakref
 
 import dcel
-from dcel import Dcel, NoMesh
+from dcel import ConstrainedDelaunay, Dcel, Delaunay, NoMesh, Removed, replies
 from dcel._calls import library
 from meshes import opened, round_, state
+
+COUNT = 5000
 
 
 class Life(unittest.TestCase):
@@ -136,3 +139,44 @@ class Life(unittest.TestCase):
             elif turn % 3 == 1:
                 other.__init__()  # type: ignore[misc]
         self.assertLess(resource.getrusage(resource.RUSAGE_SELF).ru_maxrss - before, 50_000)  # in KB
+
+
+class Large(unittest.TestCase):
+    """What takes memory for thousands of elements finds it."""
+
+    def test_wheel(self) -> None:
+        """A wheel is made of faces and of links, and its hub is given up by each of the two calls that fill a hole."""
+        wheel = Dcel.from_faces(range(COUNT + 1), [[0, rim, rim % COUNT + 1] for rim in range(1, COUNT + 1)])
+        again = Dcel.from_links(wheel.directed_edges(), range(COUNT + 1), range(COUNT + 1))
+        self.assertTrue(again.directed_edges().flat == wheel.directed_edges().flat)
+        border = [wheel.next(edge) for edge in reversed(wheel.out_edges(0))]
+        edges, faces, new_edges = wheel.isolate_vertex_and_fill_hole(border, 0)
+        self.assertEqual((len(edges), len(faces), len(new_edges)), (COUNT, COUNT, COUNT - 3))
+        self.assertEqual(len(again.remesh_edge_ring(border, edges, faces).new_edges), COUNT - 3)
+        for mesh in (wheel, again):
+            mesh.cleanup_isolated_vertex(edges, faces)
+            self.assertEqual(mesh.swap_remove_vertex(0), Removed(datum=0, moved=COUNT))
+            self.assertEqual(repr(mesh), f"<Dcel: {COUNT} vertices, {2 * COUNT - 3} edges, {COUNT - 1} faces>")
+
+    def test_fan(self) -> None:
+        """The vertex at which all triangles of a fan meet is cut off, and a path is left."""
+        fan = Dcel.from_faces(range(COUNT + 2), [[0, rim, rim + 1] for rim in range(1, COUNT + 1)])
+        out = fan.out_edges(0).tolist()
+        outer = next(place for place, edge in enumerate(out) if fan.face(edge) == 0)
+        opened = fan.disconnect_edge_strip(fan.next(edge) for edge in out[outer + 1 :] + out[: outer + 1])
+        self.assertEqual((len(opened.edges), len(opened.faces)), (COUNT + 1, COUNT))
+        fan.cleanup_isolated_vertex(opened.edges, opened.faces)
+        self.assertEqual(fan.swap_remove_vertex(0), Removed(datum=0, moved=COUNT + 1))
+        self.assertEqual(repr(fan), f"<Dcel: {COUNT + 1} vertices, {COUNT} edges, 1 faces>")
+
+    def test_points(self) -> None:
+        """Points are triangulated, and joined from left to right."""
+        random.seed(1)
+        points = sorted((x, random.randrange(10**6)) for x in random.sample(range(10**6), COUNT))
+        joined = ConstrainedDelaunay(points, [(row, row + 1) for row in range(COUNT - 1)])
+        for made in (Delaunay(points), joined):
+            self.assertEqual(len(made.simplices), 2 * COUNT - 2 - len(made.hull))
+        self.assertEqual(len(joined.constraints), COUNT - 1)
+
+    def test_replies(self) -> None:
+        self.assertTrue(replies("append 0\n" * COUNT) == "".join(f"vertex {vertex}\n" for vertex in range(COUNT)))

@@ -11,7 +11,7 @@ const folder = resolve(process.argv[2]);
 const address = pathToFileURL(`${folder}/mesh.js`);
 const { replies, picture, triangulate, Delaunay } = await import(address);
 
-const faults = [], counts = { talks: 0, lines: 0, 'talks with a limit left out': 0, pictures: 0, triangulations: 0, refusals: 0 };
+const faults = [], counts = { talks: 0, lines: 0, 'talks with a limit left out': 0, pictures: 0, triangulations: 0, 'large answers': 0, refusals: 0 };
 const read = file => readFileSync(`${ROOT}/${file}`, 'utf8');
 
 /** Notes where two texts differ. */
@@ -60,6 +60,14 @@ function compareTriangles() {
   counts.triangulations++;
 }
 
+/** What thousands of points and of lines are answered: a call finds memory for as many. The points stand on a parabola. */
+function compareLarge() {
+  const numbers = Array.from({ length: 5000 }, (_, number) => number);
+  same('the triangles of 5,000 points', String(triangulate(numbers.map(x => [x, x * x])).length), '4998');
+  same('the replies to 5,000 lines', replies('append 0\n'.repeat(5000)), numbers.map(vertex => `vertex ${vertex}\n`).join(''));
+  counts['large answers'] += 2;
+}
+
 /** What `triangulate` has to refuse, and what it has to take. */
 function compareRanges() {
   const most = 2 ** 53;
@@ -95,6 +103,7 @@ same('picture', picture(read('crates/dcel_draw/stdin'), { anchors: true }), read
 compareTalks();
 comparePictures();
 compareTriangles();
+compareLarge();
 compareRanges();
 const arrays = arrayFaults(Delaunay, faults);
 const calls = bufferFaults(readFileSync(`${folder}/mesh.wasm`), faults);
