@@ -3,10 +3,17 @@
 const PAGE = 65536, FILL = 0xa5, GAP = 64;
 
 const lines = new TextEncoder().encode('triangle 0 1 2\nappend 3\ninsert 3 1\nout 3\nappend 4\ninsert 4 2\nflip 3\nwords\n');
+// To open the removal, the mesh is copied, which takes more memory than the picture: where that lacks, there may be none without the line.
+const MANY = 8000;
+const shrinking = new TextEncoder().encode([
+  'triangle 0 0 0', 'append 0', 'insert 3 1', ...Array.from({ length: MANY }, () => 'append 0'),
+  'isolate 3 1 3 5', 'cleanup 3 4 5 / 2 3 1', 'remove 3', ...Array.from({ length: MANY }, (_, at) => `remove ${MANY + 2 - at}`),
+].join('\n'));
 const points = new Uint8Array(BigInt64Array.of(0n, 0n, 4n, 0n, 0n, 3n, 5n, 5n, 2n, 2n, -9n, 4n, 4n, 0n).buffer);
 const CALLS = [
   { name: 'mesh_page_replies', given: lines, count: lines.length, flags: [], size: 1 },
   { name: 'mesh_page_picture', given: lines, count: lines.length, flags: [0], size: 1 },
+  { name: 'mesh_page_picture', given: shrinking, count: shrinking.length, flags: [0], size: 1 },
   { name: 'mesh_page_triangles', given: points, count: points.length / 16, flags: [], size: 12 },
 ];
 const ENOUGH = 2 ** 22;
