@@ -87,15 +87,11 @@ pub(crate) fn item_of<T: Copy>(items: &[T], number: usize) -> Option<T>
     items.get(number).copied()
 }
 
-/// Writes a vertex into a list, if it has the place.
-fn note<A: Allocator>(
-    list: &mut Vec<FixedVertexHandle, A>,
-    number: usize,
-    vertex: FixedVertexHandle,
-)
-    ensures { list.new.items ≡ slice_set list.old.items number vertex }
+/// Writes an answer into a list, if it has the place.
+pub(crate) fn note<T: Copy, A: Allocator>(list: &mut Vec<T, A>, number: usize, answer: T)
+    ensures { list.new.items ≡ slice_set list.old.items number answer }
 {
     if number < list.len() {
-        list[number] = vertex;
+        list[number] = answer;
     }
 }

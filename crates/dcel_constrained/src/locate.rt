@@ -1,23 +1,24 @@
 //! Where a point is in a triangulation that need not be Delaunay.
 
-ghost use Rattle.std.specs.Prelude.{◌≡◌, IfErr, IfOk, IfSome};
+ghost use Rattle.std.specs.Prelude.{◌≡◌, ◌<◌, IfErr, IfOk, IfSome};
 ghost use Rattle.spade_dcel.specs.Handles.{mesh_behind, number_of};
+ghost use Rattle.dcel_maps.specs.Removals.{Closed};
 ghost use Rattle.dcel_maps.specs.Shapes.{IsLive};
 ghost use Rattle.dcel_planar.specs.Growing.{HasHull};
 ghost use Rattle.dcel_planar.specs.Leaving.{IsOutlined};
 ghost use Rattle.dcel_planar.specs.Places.{IsPlace};
 ghost use Rattle.dcel_constrained.specs.Missing.{IsMissed};
 
-use dcel_planar::{Edge, PlanarMesh, PositionInTriangulation, at_a_vertex, side};
+mod all;
+
+use dcel_planar::{Edge, EdgeMesh, PlanarMesh, PositionInTriangulation, at_a_vertex, side};
 use dcel_predicates::{Point, Side};
 use spade_dcel::handles::FixedDirectedEdgeHandle;
 use spade_dcel::laws::every_mesh;
 use std::alloc::Allocator;
 
-/// Returns where a point is.
-///
-/// A walk begins at the newest edge, which is near the vertex that came last. Where edges are not
-/// Delaunay it may go in circles: then each half edge is looked at.
+/// Returns where a point is, by a walk that begins at the newest edge, which is near the vertex that
+/// came last.
 pub(crate) fn locate<UE, A: Allocator>(
     planar: &PlanarMesh<UE, A>,
     point: Point,
@@ -25,19 +26,52 @@ pub(crate) fn locate<UE, A: Allocator>(
     requires hull { IsOutlined planar.now.dcel }
     ensures { IsPlace planar.now.dcel point result }
 {
-    let halves = planar.dcel.num_directed_edges();
-    if halves == 0 {
+    locate_from(planar, newest(&planar.dcel), point)
+}
+
+/// Returns the newest half edge, or the number 0 if there is none.
+fn newest<UE, A: Allocator>(dcel: &EdgeMesh<UE, A>) -> FixedDirectedEdgeHandle {
+    FixedDirectedEdgeHandle::new(dcel.num_directed_edges().saturating_sub(1))
+}
+
+/// Returns where a point is, by a walk that begins at a half edge, or at the first one if there is no
+/// such.
+///
+/// Where edges are not Delaunay it may go in circles: then each half edge is looked at.
+fn locate_from<UE, A: Allocator>(
+    planar: &PlanarMesh<UE, A>,
+    start: FixedDirectedEdgeHandle,
+    point: Point,
+) -> PositionInTriangulation
+    requires hull { IsOutlined planar.now.dcel }
+    ensures { IsPlace planar.now.dcel point result }
+{
+    if planar.dcel.num_undirected_edges() == 0 {
         return at_a_vertex(&planar.dcel, point);
     }
-    let newest = planar
-        .dcel
-        .directed_edge(FixedDirectedEdgeHandle::new(halves - 1));
+    let edge = beginning(&planar.dcel, start);
     if planar.dcel.num_faces() == 1 {
-        return planar.locate_on_line(newest, point);
+        return planar.locate_on_line(edge, point);
     }
-    match walk(planar, newest, point) {
+    match walk(planar, edge, point) {
         Some(position) => position,
         None => scan(planar, point),
+    }
+}
+
+/// Returns the half edge where a walk begins: this one, or the first if there is no such.
+fn beginning<'a, UE, A: Allocator>(
+    dcel: &'a EdgeMesh<UE, A>,
+    start: FixedDirectedEdgeHandle,
+) -> Edge<'a, UE, A>
+    requires closed { dcel.now.shape.removal ≡ Closed }
+    requires some { 0 < dcel.now.shape.edges }
+    ensures mesh { mesh_behind result ≡ dcel.now }
+    ensures live { IsLive dcel.now.shape (number_of result) }
+{
+    match dcel.get_directed_edge(start) {
+        Some(edge) => edge,
+        None => dcel.directed_edge(FixedDirectedEdgeHandle::new(0)),
     }
 }
 

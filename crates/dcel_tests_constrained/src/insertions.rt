@@ -56,7 +56,7 @@ const FAR_OUTSIDE: [Step; 1] = [(
 )];
 
 /// A triangle, and a smaller one inside, turned.
-const RING: [Place; 6] = [
+pub const RING: [Place; 6] = [
     (100, 0),
     (-50, 87),
     (-50, -87),
@@ -67,7 +67,7 @@ const RING: [Place; 6] = [
 
 /// The sides of both, and the edges between them. A walk to the middle that comes to a triangle between
 /// the two crosses to the next one of these, and so goes round and round.
-const RING_SIDES: [Ends; 12] = [
+pub const RING_SIDES: [Ends; 12] = [
     (0, 1),
     (1, 2),
     (2, 0),

@@ -15,6 +15,8 @@ mod joins;
 #[cfg(test)]
 mod loading;
 #[cfg(test)]
+mod positions;
+#[cfg(test)]
 mod refinement;
 #[cfg(test)]
 mod refusals;

@@ -334,7 +334,7 @@ fn loads_are_refused_memory(rt: HostRuntime) -> Result<(), Fail> {
 }
 
 /// Five thousand points, each to the right of the one before it.
-fn many_points(alloc: Global) -> Result<Vec<Point>, Fail> {
+pub fn many_points(alloc: Global) -> Result<Vec<Point>, Fail> {
     let mut points = Vec::new(alloc);
     for index in 0..5000i64 {
         points.push(point(index, index.wrapping_mul(index) % 1013)?)?;
@@ -343,7 +343,7 @@ fn many_points(alloc: Global) -> Result<Vec<Point>, Fail> {
 }
 
 /// Segments from each of them to the next one, which don't cross.
-fn many_segments(alloc: Global) -> Result<Vec<Segment>, AllocError> {
+pub fn many_segments(alloc: Global) -> Result<Vec<Segment>, AllocError> {
     let mut segments = Vec::new(alloc);
     for from in 0..4999usize {
         let to = from.wrapping_add(1);
