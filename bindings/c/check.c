@@ -659,6 +659,7 @@ static void check_no_constrained(void) {
     CHECK(dcel_constrained_insert_all(&none, &point, 1, &vertex, 1, &number) == DCEL_NO_MESH && vertex == 77 && number == 77);
     CHECK(dcel_constrained_remove(&none, 0, &number) == DCEL_NO_MESH && number == 77);
     CHECK(dcel_constrained_locate(&none, point, &position) == DCEL_NO_MESH && position.kind == 77);
+    CHECK(dcel_constrained_locate_all(&none, &point, 1, &position, 1, &number) == DCEL_NO_MESH && position.kind == 77 && number == 77);
     CHECK(dcel_constrained_can_add_constraint(&none, 0, 0, &answer) == DCEL_NO_MESH && answer);
     CHECK(dcel_constrained_add_constraint(&none, 0, 1, &answer) == DCEL_NO_MESH && answer);
     CHECK(dcel_constrained_add_constraints(&none, &segment, 1, &number) == DCEL_NO_MESH && number == 0);
@@ -813,6 +814,23 @@ static void check_constrained_lists(void) {
     dcel_constrained_free(&made);
 }
 
+/* Points that are asked for at once, among constraints. */
+static void check_constrained_places(void) {
+    dcel_constrained made = DCEL_CONSTRAINED_INIT;
+    const dcel_point asked[4] = {{5, 6}, {5, 0}, {-9, 3}, {5, 1}};
+    dcel_position positions[5] = {{77, 77}, {77, 77}, {77, 77}, {77, 77}, {77, 77}};
+    uint32_t v[6];
+    uint64_t row;
+    CHECK(dcel_constrained_bulk_load(&made, SQUARE, 6, SIDES, 4, v, 6, &row) == DCEL_DONE);
+    row = 77;
+    CHECK(dcel_constrained_locate_all(&made, FAR, 3, positions, 2, &row) == DCEL_SHORT && row == 77);
+    CHECK(dcel_constrained_locate_all(&made, FAR, 3, positions, 5, &row) == DCEL_OUT_OF_RANGE && row == 1 && positions[0].kind == 77);
+    CHECK(dcel_constrained_locate_all(&made, asked, 4, positions, 5, &row) == DCEL_DONE && positions[4].kind == 77);
+    CHECK(positions[0].kind == DCEL_ON_VERTEX && positions[0].number == v[4]);
+    CHECK(positions[1].kind == DCEL_ON_EDGE && positions[2].kind == DCEL_OUTSIDE && positions[3].kind == DCEL_ON_FACE);
+    dcel_constrained_free(&made);
+}
+
 /* A copy has memory of its own. */
 static void check_copies(void) {
     dcel_triangulation from = DCEL_TRIANGULATION_INIT;
@@ -863,6 +881,7 @@ int main(void) {
     check_loading();
     check_constraints();
     check_constrained_lists();
+    check_constrained_places();
     check_copies();
     printf("%d checks passed\n", checks);
     return EXIT_SUCCESS;

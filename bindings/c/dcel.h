@@ -794,6 +794,13 @@ dcel_status dcel_constrained_remove(dcel_constrained *triangulation, uint32_t ve
 dcel_status dcel_constrained_locate(const dcel_constrained *triangulation, dcel_point point,
                                     dcel_position *position);
 
+/* Tells where each point is, as dcel_triangulation_locate_all does.
+   Refusals: OUT_OF_RANGE, OUT_OF_MEMORY, SHORT if the buffer has fewer places than there are points,
+   UNFINISHED. */
+dcel_status dcel_constrained_locate_all(const dcel_constrained *triangulation, const dcel_point *points,
+                                        size_t points_len, dcel_position *positions, size_t positions_len,
+                                        uint64_t *row);
+
 /* Tells whether the segment between two vertices crosses no constraint. One that ends on it, or is on it,
    doesn't cross it. The answer is false if there is no such vertex.
    Refusals: UNFINISHED. */

@@ -305,10 +305,12 @@ static const dcel_ends SIDES[4] = {{0, 1}, {1, 2}, {2, 3}, {3, 0}};
 static void check_unfinished_constrained(const dcel_constrained *made) {
     const dcel_point point = {1, 1};
     dcel_position position = {77, 77};
+    uint64_t row;
     bool answer = true;
     if (!made->is_open || dcel_constrained_is_whole(made))
         return;
     must(dcel_constrained_locate(made, point, &position) == DCEL_UNFINISHED && position.kind == 77, "locate, unfinished");
+    must(dcel_constrained_locate_all(made, &point, 1, &position, 1, &row) == DCEL_UNFINISHED && position.kind == 77, "locate all, unfinished");
     must(dcel_constrained_can_add_constraint(made, 0, 1, &answer) == DCEL_UNFINISHED && answer, "can add, unfinished");
 }
 
@@ -394,6 +396,7 @@ typedef struct {
     dcel_triangle triangles[8];
     dcel_across across[8];
     dcel_ends edges[16], constraints[16];
+    dcel_position positions[8];
     uint32_t hull[8], depths[8];
     uint64_t needed;
 } listed;
@@ -410,6 +413,10 @@ static dcel_status list_constraints(dcel_constrained *of, listed *it) {
     return dcel_constrained_constraints(of, it->constraints, 16, &it->needed);
 }
 static dcel_status list_regions(dcel_constrained *of, listed *it) { return dcel_constrained_regions(of, it->depths, 8, &it->needed); }
+static dcel_status list_places(dcel_constrained *of, listed *it) {
+    uint64_t row;
+    return dcel_constrained_locate_all(of, ASKED, 3, it->positions, 8, &row);
+}
 static dcel_status list_made(dcel_constrained *of, listed *it) {
     static dcel_triangulation from = DCEL_TRIANGULATION_INIT;
     (void)of;
@@ -437,6 +444,7 @@ static const listing LISTINGS[] = {
     {"clone, constrained", list_copy},      {"points, constrained", list_points}, {"triangles, constrained", list_triangles},
     {"neighbors, constrained", list_neighbors}, {"edges, constrained", list_edges},   {"hull, constrained", list_hull},
     {"constraints", list_constraints},      {"regions", list_regions},            {"constrained of a triangulation", list_made},
+    {"places, constrained", list_places},
 };
 
 /* A call that finds no memory to list what one with constraints has leaves its buffer. */

@@ -337,9 +337,28 @@ static void check_segment(const told *it, uint32_t from, uint32_t to) {
     }
 }
 
+/* Points are asked for together and one by one. */
+static void check_asked(const dcel_constrained *made, const told *it) {
+    enum { ASKED = 40 };
+    dcel_point asked[ASKED];
+    dcel_position positions[ASKED], at;
+    uint64_t row = 77;
+    for (int i = 0; i < ASKED; i++) {
+        asked[i].x = some(SIDE + 2) - (int64_t)1;
+        asked[i].y = some(SIDE + 2) - (int64_t)1;
+    }
+    done(dcel_constrained_locate_all(made, asked, ASKED, positions, ASKED, &row), "locate all");
+    for (int i = 0; i < ASKED; i++) {
+        done(dcel_constrained_locate(made, asked[i], &at), "locate");
+        check_place(it, asked[i], at);
+        check_place(it, asked[i], positions[i]);
+        must(at.kind == positions[i].kind, "a point is at one place alone");
+    }
+    must(row == 77, "no row is told");
+}
+
 /* All is so that is to be so of one with constraints. */
 static void check_whole(const dcel_constrained *made, told *it) {
-    dcel_position at;
     tell_constrained(made, it);
     check_triangles(it);
     check_legal(it);
@@ -347,11 +366,7 @@ static void check_whole(const dcel_constrained *made, told *it) {
     check_neighbors(it);
     check_links(it);
     check_marks(made, it);
-    for (int i = 0; i < 40; i++) {
-        dcel_point asked = {some(SIDE + 2) - (int64_t)1, some(SIDE + 2) - (int64_t)1};
-        done(dcel_constrained_locate(made, asked, &at), "locate");
-        check_place(it, asked, at);
-    }
+    check_asked(made, it);
 }
 
 /* Adds a segment if no constraint crosses it. Returns whether it was. */

@@ -368,6 +368,7 @@ FUNCTIONS: dict[str, tuple[Any, tuple[Any, ...]]] = {
     "dcel_constrained_insert_all": (Status, (_constrained, _point, c_size_t, _uint32, c_size_t, _uint64)),
     "dcel_constrained_remove": (Status, (_constrained, c_uint32, _uint64)),
     "dcel_constrained_locate": (Status, (_constrained, Point, _position)),
+    "dcel_constrained_locate_all": (Status, (_constrained, _point, c_size_t, _position, c_size_t, _uint64)),
     "dcel_constrained_can_add_constraint": (Status, (_constrained, c_uint32, c_uint32, _bool)),
     "dcel_constrained_add_constraint": (Status, (_constrained, c_uint32, c_uint32, _bool)),
     "dcel_constrained_add_constraints": (Status, (_constrained, _ends, c_size_t, _uint64)),

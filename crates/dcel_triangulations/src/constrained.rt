@@ -21,7 +21,7 @@ pub use listing::{
     list_directed_edges, list_edges, list_hull, list_neighbors, list_points, list_triangles,
 };
 pub use loading::bulk_load;
-pub use locating::locate;
+pub use locating::{locate, locate_all};
 pub use making::{clone, from_triangulation};
 pub use marks::{list_constraints, list_regions};
 pub use removing::remove;

@@ -124,7 +124,7 @@ pub fn locate_all(
 }
 
 /// Puts positions into the buffer, as many as fit.
-fn put_positions(list: &[PositionInTriangulation], buffer: &mut [DcelPosition])
+pub(crate) fn put_positions(list: &[PositionInTriangulation], buffer: &mut [DcelPosition])
     ensures { buffer.new ≡ filled (map position_told list.now) buffer.old }
 {
     let fitting = list.len().min(buffer.len());

@@ -17,7 +17,7 @@ pub use lists::{
 };
 pub use points::{
     dcel_constrained_bulk_load, dcel_constrained_insert, dcel_constrained_insert_all,
-    dcel_constrained_locate, dcel_constrained_remove,
+    dcel_constrained_locate, dcel_constrained_locate_all, dcel_constrained_remove,
 };
 pub use whole::{
     dcel_constrained_clone, dcel_constrained_finish, dcel_constrained_free,

@@ -29,7 +29,7 @@ HANDLES = {
 # What the crate does without: it walks by steps, and asks for no version but by the name that only one has.
 LEFT_OUT = {"dcel_version", "dcel_rev", "dcel_out_edges", "dcel_face_edges", "dcel_directed_edge", "dcel_replies"}
 LEFT_OUT |= {f"dcel_triangulation_{it}" for it in ("points", "hull", "locate_all", "nearest_all")}
-LEFT_OUT |= {"dcel_constrained_points", "dcel_constrained_hull"}
+LEFT_OUT |= {f"dcel_constrained_{it}" for it in ("points", "hull", "locate_all")}
 # What ffi.rs calls itself: how a mesh is made and ends.
 LIVES = {"dcel_new", "dcel_free", "dcel_clone"}
 

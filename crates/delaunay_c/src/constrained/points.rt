@@ -6,7 +6,7 @@ ghost use Rattle.dcel_triangulations.specs.Points.{IsFar, IsFirstFar};
 ghost use Rattle.dcel_triangulations.specs.constrained.Calls.{IsWhole, kept_in};
 ghost use Rattle.dcel_triangulations.specs.constrained.Inserting.{FailsToInsertAllOf, FailsToInsertPoint, InsertsAll, InsertsPoint};
 ghost use Rattle.dcel_triangulations.specs.constrained.Loading.{FailsToLoadAll, HasLoaded};
-ghost use Rattle.dcel_triangulations.specs.constrained.Places.{IsPlaceOf};
+ghost use Rattle.dcel_triangulations.specs.constrained.Places.{IsPlaceOf, LocatesAll};
 ghost use Rattle.dcel_triangulations.specs.constrained.Removing.{FailsToRemoveVertex, RemovesVertex};
 
 use dcel_delaunay::lists::Ends;
@@ -132,4 +132,31 @@ pub extern "C" fn dcel_constrained_locate(
     ensures same { kept_in triangulation.new ≡ kept_in triangulation.old }
 {
     constrained::locate(triangulation, point, position)
+}
+
+/// Tells where each point is, as [`dcel_constrained_locate`] does, and puts it into the buffer, in the order of the
+/// points. What lies behind them there stays.
+///
+/// It looks for them in an order of its own, in which walks are short. If coordinates are out
+/// of range, the first row that has one is told.
+#[unsafe(no_mangle)]
+pub extern "C" fn dcel_constrained_locate_all(
+    alloc: Global,
+    triangulation: &mut DcelConstrained,
+    points: &[DcelPoint],
+    positions: &mut [DcelPosition],
+    row: &mut u64,
+) -> u32
+    ensures done { result ≡ 0 → IsSo (LocatesAll points.now positions.old positions.new) (kept_in triangulation.old) }
+    ensures fits { result ≡ 0 → length points.now ≤ length positions.old }
+    ensures none { (result ≡ 21) ↔ (kept_in triangulation.old ≡ None) }
+    ensures short { result ≡ 22 → length positions.old < length points.now }
+    ensures out_of_range { result ≡ 24 → IsFirstFar points.now row.new }
+    ensures unfinished { result ≡ 25 → IsSo (λ t. ¬ IsWhole t) (kept_in triangulation.old) }
+    ensures status { (result ≡ 0) ⊎ ((20 ≤ result) × (result ≤ 25) × (result ≢ 23)) }
+    ensures untold { result ≢ 0 → positions.new ≡ positions.old }
+    ensures in_range { result ≢ 24 → row.new ≡ row.old }
+    ensures same { kept_in triangulation.new ≡ kept_in triangulation.old }
+{
+    constrained::locate_all(alloc, triangulation, points, positions, row)
 }
