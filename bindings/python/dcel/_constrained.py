@@ -8,7 +8,7 @@ from ctypes import c_bool, c_uint32, c_uint64
 from typing import Any, Literal
 
 from . import _declared
-from ._arrays import shaped, start_of, zeros
+from ._arrays import shaped, start_of
 from ._calls import calls_of
 from ._errors import Crosses, NoSuchEdge
 from ._grid import Grid
@@ -206,17 +206,6 @@ class ConstrainedDelaunay(Triangulation):
         """Whether each triangle is in a polygon, (m,), of bools: whether its region is odd. This is so if constraints are the borders of
         polygons and of their holes, no two of which have an edge in common; `triangulate_polygon` takes others too."""
         return odd_ones(self.regions)
-
-    # Queries.
-
-    def _positions(self, steps: Any) -> array[int]:
-        count, kept = len(steps) // 2, self._whole()
-        found = zeros(2 * count)
-        if count:
-            points, places = (_declared.Point * count).from_buffer(steps), (_declared.Position * count).from_buffer(found)
-            for place in range(count):
-                self._calls.locate(kept, points[place], places[place])
-        return found
 
 
 def crossing_of(what: str, row: int, pair: tuple[int, int]) -> Crosses:

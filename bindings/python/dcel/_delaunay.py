@@ -2,7 +2,6 @@
 
 from __future__ import annotations
 
-from array import array
 from collections.abc import Iterable
 from ctypes import c_uint64
 from typing import Any, Literal
@@ -53,14 +52,6 @@ class Delaunay(Triangulation):
     def __init__(self, points: Iterable[Any] = (), *, grid: Grid | Literal["fit", "exact"] = "fit") -> None:
         self._start(grid)
         self.insert(points)
-
-    def _positions(self, steps: Any) -> array[int]:
-        """Where points are: of each an enum dcel_place, and a number."""
-        count = len(steps) // 2
-        found = zeros(2 * count)
-        starts = start_of(steps, _declared.Point), count, start_of(found, _declared.Position), count
-        self._calls.locate_all(self._whole(), *starts, c_uint64())
-        return found
 
     @in_turn
     def nearest(self, xi: Any) -> Any:

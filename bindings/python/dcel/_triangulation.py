@@ -422,7 +422,11 @@ class Triangulation:
 
     def _positions(self, steps: Any) -> array[int]:
         """Where points are: of each an enum dcel_place, and a number."""
-        raise NotImplementedError
+        count = len(steps) // 2
+        found = zeros(2 * count)
+        starts = start_of(steps, _declared.Point), count, start_of(found, _declared.Position), count
+        self._calls.locate_all(self._whole(), *starts, c_uint64())
+        return found
 
     @in_turn
     def find_simplex(self, xi: Any) -> Any:

@@ -94,8 +94,11 @@ class Random(Checked):
                         ConstrainedDelaunay(points, segments)
                     self.assertEqual((raised.exception.row, raised.exception.pair), (answers.index(False), segments[answers.index(False)]))
                 near = [(x + rng.randint(-2, 2), y + rng.randint(-2, 2)) for x, y in points[:6]]
-                for x, y in near + [((points[0][0] + x) // 2, (points[0][1] + y) // 2) for x, y in points[:6]]:
-                    self.check_place(made, points, (min(max(x, -LIMIT), LIMIT), min(max(y, -LIMIT), LIMIT)))
+                near += [((points[0][0] + x) // 2, (points[0][1] + y) // 2) for x, y in points[:6]]
+                asked = [(min(max(x, -LIMIT), LIMIT), min(max(y, -LIMIT), LIMIT)) for x, y in near]
+                for point, kind in zip(asked, made.locate(asked)[0].tolist(), strict=True):
+                    self.check_place(made, points, point)
+                    self.assertEqual(made.locate([point])[0].tolist(), [kind])
         self.assertGreater(crossed, 20)
 
     def test_faults_are_found(self) -> None:

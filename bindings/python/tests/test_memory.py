@@ -131,6 +131,7 @@ class Memory(unittest.TestCase):
             **{f"insert {len(it)} {it[0]}": lambda made, it=it: made.insert(it) for it in ([(3, 0)], [(1, 1), (3, 0), (2, 0.5)], [(9, 9), (1, 1)], [(9, 9)])},
             **{f"add {len(it)}": lambda made, it=it: made.add(it) for it in ([(0, 2)], [(4, 5), (0, 4), (2, 5)])},
             **{name: lambda made, name=name: getattr(made, name)() for name in ("copy", "mesh")},
+            **{name: lambda made, name=name: getattr(made, name)(square) for name in ("find_simplex", "locate")},
             **{name: lambda made, name=name: getattr(made, name) for name in ("simplices", "neighbors", "edges", "hull", "constraints", "regions")},
             "remove_constraint": lambda made: made.remove_constraint(0, 1),
         }
