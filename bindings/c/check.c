@@ -641,6 +641,9 @@ static void check_clone(void) {
     dcel_triangulation_free(&to);
 }
 
+/* Any triangle will do. */
+static const dcel_refinement ANYTHING = {UINT64_MAX, 0, 100, 0, 1, false};
+
 /* One with constraints that isn't open answers all calls, and is given nothing. */
 static void check_no_constrained(void) {
     dcel_constrained none = DCEL_CONSTRAINED_INIT, other = DCEL_CONSTRAINED_INIT;
@@ -664,6 +667,7 @@ static void check_no_constrained(void) {
     CHECK(dcel_constrained_add_constraint(&none, 0, 1, &answer) == DCEL_NO_MESH && answer);
     CHECK(dcel_constrained_add_constraints(&none, &segment, 1, &number) == DCEL_NO_MESH && number == 0);
     CHECK(dcel_constrained_remove_constraint(&none, 0, &answer) == DCEL_NO_MESH && answer);
+    CHECK(dcel_constrained_refine(&none, &ANYTHING, &number, &answer) == DCEL_NO_MESH && number == 0 && answer);
     CHECK(!dcel_constrained_is_constraint(&none, 0) && !dcel_constrained_exists_constraint(&none, 0, 1));
     CHECK(dcel_constrained_new(&other) == DCEL_DONE && dcel_constrained_is_whole(&other));
     CHECK(dcel_constrained_clone(&none, &other) == DCEL_NO_MESH && dcel_constrained_is_whole(&other));
@@ -831,6 +835,37 @@ static void check_constrained_places(void) {
     dcel_constrained_free(&made);
 }
 
+/* Refines it, and returns whether that is reached. */
+static bool refine(dcel_constrained *made, dcel_refinement wanted, uint64_t *added) {
+    uint64_t before = dcel_constrained_num_vertices(made);
+    bool reached = true;
+    CHECK(dcel_constrained_refine(made, &wanted, added, &reached) == DCEL_DONE && dcel_constrained_is_whole(made));
+    CHECK(dcel_constrained_num_vertices(made) == before + *added && *added <= wanted.max_additional_vertices);
+    return reached;
+}
+
+/* A square is refined to an angle of 30 degrees and an area; no vertex is added where none is wanted, allowed or possible. */
+static void check_refined(void) {
+    const dcel_point large[5] = {{0, 0}, {40960, 0}, {40960, 40960}, {0, 40960}, {20480, 20480}}, small[3] = {{0, 0}, {1, 0}, {0, 1}};
+    const dcel_ends sides[3] = {{0, 1}, {1, 2}, {2, 0}};
+    const dcel_refinement fine = {0, 8000000, 5000, 37837, 65535, true}, none = {0, 8000000, 0, 37837, 65535, true};
+    const dcel_refinement wide = {1, 0, 100, 0, 0, false}, empty = {0, 0, 100, 0, 1, false}, right = {UINT64_MAX, 0, 9, 1, 0, true};
+    dcel_constrained made = DCEL_CONSTRAINED_INIT;
+    uint32_t v[5];
+    uint64_t row, added = 77;
+    CHECK(dcel_constrained_bulk_load(&made, large, 5, SIDES, 4, v, 5, &row) == DCEL_DONE);
+    CHECK(refine(&made, ANYTHING, &added) && added == 0);
+    CHECK(refine(&made, wide, &added) && added == 0);
+    CHECK(!refine(&made, none, &added) && added == 0);
+    CHECK(refine(&made, fine, &added) && added > 200 && added < 2000);
+    CHECK(dcel_constrained_num_constraints(&made) > 20 && !dcel_constrained_exists_constraint(&made, v[0], v[1]));
+    CHECK(refine(&made, fine, &added) && added == 0);
+    CHECK(!refine(&made, right, &added));
+    CHECK(dcel_constrained_bulk_load(&made, small, 3, sides, 3, v, 3, &row) == DCEL_DONE);
+    CHECK(!refine(&made, empty, &added) && added == 0);
+    dcel_constrained_free(&made);
+}
+
 /* A copy has memory of its own. */
 static void check_copies(void) {
     dcel_triangulation from = DCEL_TRIANGULATION_INIT;
@@ -882,6 +917,7 @@ int main(void) {
     check_constraints();
     check_constrained_lists();
     check_constrained_places();
+    check_refined();
     check_copies();
     printf("%d checks passed\n", checks);
     return EXIT_SUCCESS;

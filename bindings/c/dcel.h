@@ -864,6 +864,31 @@ dcel_status dcel_constrained_constraints(const dcel_constrained *triangulation, 
 dcel_status dcel_constrained_regions(const dcel_constrained *triangulation, uint32_t *depths,
                                      size_t depths_len, uint64_t *needed);
 
+/* What a refinement is to reach, and where it gives up. Each corner is to have at least the angle whose tangent
+   is rise / run, unless both its sides are constraints: for 20 degrees that is 23853 / 65535, and with a rise of
+   0 every angle will do. Each triangle is to have at most half the area max_doubled_area_high * 2^64 +
+   max_doubled_area_low, in squares of the coordinates' unit; with a high half from 2^63 on, as UINT64_MAX, any
+   area will do. With `inside` this is asked only of triangles of odd depth (dcel_constrained_regions), else of
+   all. At most max_additional_vertices are added. Any numbers may be given. */
+typedef struct {
+    uint64_t max_doubled_area_high, max_doubled_area_low, max_additional_vertices;
+    uint16_t rise, run;
+    bool inside;
+} dcel_refinement;
+
+/* Adds vertices until each triangle is as asked, or as many are added as allowed, or none is found that would
+   help. `added` tells how many were added, and `reached` whether each triangle is as asked, exactly. Vertices
+   keep their numbers, and the new ones follow them; a constraint on which some are added becomes constraints
+   from one to the next, and no other edge is one. A constraint is split first that has a vertex of its triangle
+   inside the circle of which it is a diameter.
+   New vertices have whole coordinates, so a constraint can be split only at a point between its ends that
+   has such: multiply all coordinates by a power of two first, as 4096. A side of the hull that is no
+   constraint isn't split. Up to 20.7 degrees the angle is mostly reached, and above 34 rarely.
+   With any refusal `added` and `reached` stay, and the vertices added so far do, too.
+   Refusals: NO_ROOM, OUT_OF_MEMORY, UNFINISHED. */
+dcel_status dcel_constrained_refine(dcel_constrained *triangulation, const dcel_refinement *parameters,
+                                    uint64_t *added, bool *reached);
+
 #ifdef __cplusplus
 }
 #endif

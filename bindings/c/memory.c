@@ -389,6 +389,38 @@ static void sweep_load(void) {
     }
 }
 
+/* A refinement that finds no memory keeps points and constraints, and tells nothing; the triangulation is whole or can be finished. */
+static void sweep_refine(void) {
+    const dcel_point corners[4] = {{0, 0}, {4096, 0}, {4096, 1024}, {0, 1024}};
+    const dcel_refinement wanted = {0, 300000, 100, 1, 2, true};
+    for (long met = 0;; met++) {
+        dcel_constrained made = DCEL_CONSTRAINED_INIT;
+        dcel_point points[104];
+        uint32_t v[4];
+        uint64_t row, needed, added = 77;
+        bool reached = false;
+        must(dcel_constrained_bulk_load(&made, corners, 4, SIDES, 4, v, 4, &row) == DCEL_DONE, "there was no memory");
+        left = met;
+        dcel_status status = dcel_constrained_refine(&made, &wanted, &added, &reached);
+        left = -1;
+        must(dcel_constrained_is_whole(&made) == (status != DCEL_UNFINISHED), "it is unfinished if that is said");
+        must(status == DCEL_DONE || (added == 77 && !reached), "refine tells nothing");
+        check_unfinished_constrained(&made);
+        must(dcel_constrained_finish(&made) == DCEL_DONE && dcel_constrained_is_whole(&made), "it can't be finished");
+        must(dcel_constrained_points(&made, points, 104, &needed) == DCEL_DONE && needed >= 4, "points are kept");
+        for (int i = 0; i < 4; i++)
+            must(points[v[i]].x == corners[i].x && points[v[i]].y == corners[i].y, "points stay where they were");
+        must(dcel_constrained_num_constraints(&made) >= 4, "constraints are kept");
+        dcel_constrained_free(&made);
+        if (status == DCEL_DONE) {
+            must(reached && added == needed - 4 && added > 10, "it is refined");
+            printf("refine: %ld requests\n", met);
+            return;
+        }
+        must(status == DCEL_OUT_OF_MEMORY || status == DCEL_UNFINISHED, "refine");
+    }
+}
+
 /* What is told of one with constraints, or made of it. */
 typedef struct {
     dcel_constrained copy;
@@ -484,5 +516,6 @@ int main(void) {
         sweep_listing(&LISTINGS[i]);
     sweep_constrained();
     sweep_load();
+    sweep_refine();
     return EXIT_SUCCESS;
 }

@@ -21,7 +21,7 @@ typedef struct {
     size_t vertices, faces, sides, around, marked;
 } told;
 
-static int set = -1;
+static int set = -1, refined = 0;
 static uint32_t state = 1;
 
 static void must(bool holds, const char *what) {
@@ -387,6 +387,66 @@ static bool add(dcel_constrained *made, told *it, uint32_t from, uint32_t to) {
     return !is_crossed;
 }
 
+/* Whether each corner that is to be refined has the wanted angle and area. */
+static bool is_refined(const told *it, const dcel_refinement *wanted) {
+    for (size_t t = 0; t < it->faces; t++)
+        for (int k = 0; k < 3 && (it->depths[t] % 2 == 1 || !wanted->inside); k++) {
+            uint32_t u = corner(it->triangles[t], k), v = corner(it->triangles[t], (k + 1) % 3), w = corner(it->triangles[t], (k + 2) % 3);
+            dcel_point p = it->points[u], a = it->points[v], b = it->points[w];
+            int64_t twice = area(p, a, b), dot = (a.x - p.x) * (b.x - p.x) + (a.y - p.y) * (b.y - p.y);
+            bool is_wide = wanted->rise * dot <= wanted->run * twice || (is_marked(it, u, v) && is_marked(it, u, w));
+            if (!is_wide || (wanted->max_doubled_area_high == 0 && twice > (int64_t)wanted->max_doubled_area_low))
+                return false;
+        }
+    return true;
+}
+
+/* Whether a point is on a segment. */
+static bool is_on(dcel_point from, dcel_point to, dcel_point p) { return are_equal(from, p) || are_equal(to, p) || is_between(from, to, p); }
+
+/* The same segments and the hull on a finer grid, refined: vertices stay, and constraints become several. Returns whether vertices were
+   added, and what is wanted was reached. */
+static bool check_refined(const dcel_point *given, uint32_t count, const dcel_ends *rows, uint32_t used) {
+    static told before, it;
+    dcel_constrained made = DCEL_CONSTRAINED_INIT;
+    dcel_point scaled[MOST];
+    dcel_refinement wanted = {some(2) ? 0 : UINT64_MAX, 500000 + some(1000000), 0, (uint16_t)some(40), 100, some(2) == 1};
+    dcel_ends around[2 * MOST];
+    uint32_t vertices[MOST];
+    uint64_t row, added = 77;
+    bool reached;
+    for (uint32_t i = 0; i < count; i++) {
+        scaled[i].x = 64 * given[i].x;
+        scaled[i].y = 64 * given[i].y;
+    }
+    done(dcel_constrained_bulk_load(&made, scaled, count, rows, used, vertices, MOST, &row), "load");
+    tell_constrained(&made, &before);
+    for (size_t i = 0; i < before.around; i++) {
+        around[i].from = before.hull[i];
+        around[i].to = before.hull[(i + 1) % before.around];
+    }
+    done(dcel_constrained_add_constraints(&made, around, before.around, &row), "add the hull");
+    tell_constrained(&made, &before);
+    wanted.max_additional_vertices = MOST - before.vertices;
+    done(dcel_constrained_refine(&made, &wanted, &added, &reached), "refine");
+    check_whole(&made, &it);
+    must(added == it.vertices - before.vertices && added <= wanted.max_additional_vertices, "as many vertices as are told");
+    must(memcmp(it.points, before.points, before.vertices * sizeof it.points[0]) == 0, "vertices stay");
+    for (size_t i = 0; i < before.marked; i++)
+        check_segment(&it, before.constraints[i].from, before.constraints[i].to);
+    for (size_t i = 0; i < it.marked; i++) {
+        bool is_part = false;
+        for (size_t k = 0; k < before.marked; k++) {
+            dcel_point from = it.points[before.constraints[k].from], to = it.points[before.constraints[k].to];
+            is_part |= is_on(from, to, it.points[it.constraints[i].from]) && is_on(from, to, it.points[it.constraints[i].to]);
+        }
+        must(is_part, "no other edge is a constraint");
+    }
+    must(reached == is_refined(&it, &wanted), "whether each triangle is as wanted");
+    dcel_constrained_free(&made);
+    return reached && added > 0;
+}
+
 /* Points, and segments between them one by one, and then at once; and constraints split, freed, and taken away with a vertex. */
 static void check_constrained(const dcel_point *given, uint32_t count) {
     static told it, other;
@@ -432,6 +492,7 @@ static void check_constrained(const dcel_point *given, uint32_t count) {
     dcel_constrained_free(&made);
     check_whole(&copy, &other);
     dcel_constrained_free(&copy);
+    refined += check_refined(given, count, rows, used);
 }
 
 /* Each call that asks for memory has it for a large grid, whose rows and sides are constraints. */
@@ -527,6 +588,7 @@ int main(void) {
         check_clone(&made, &it);
         check_constrained(given, count);
     }
+    must(refined > 20, "many are refined as wanted");
     check_large();
     printf("%d sets\n", set);
     return EXIT_SUCCESS;

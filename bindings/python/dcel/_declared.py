@@ -3,7 +3,7 @@
 from __future__ import annotations
 
 import enum
-from ctypes import POINTER, Structure, c_bool, c_int64, c_size_t, c_uint8, c_uint32, c_uint64, c_void_p
+from ctypes import POINTER, Structure, c_bool, c_int64, c_size_t, c_uint8, c_uint16, c_uint32, c_uint64, c_void_p
 from typing import Any
 
 VERSION = "0.2.0"
@@ -182,6 +182,16 @@ class Constrained(Structure):
     _fields_ = [("at", c_void_p), ("is_open", c_bool)]
 
 
+class Refinement(Structure):
+    """What a refinement is to reach, and where it gives up. Each corner is to have at least the angle whose tangent is rise / run, unless
+    both its sides are constraints: for 20 degrees that is 23853 / 65535, and with a rise of 0 every angle will do. Each triangle is to have
+    at most half the area max_doubled_area_high * 2^64 + max_doubled_area_low, in squares of the coordinates' unit; with a high half from
+    2^63 on, as UINT64_MAX, any area will do. With `inside` this is asked only of triangles of odd depth (dcel_constrained_regions), else of
+    all. At most max_additional_vertices are added. Any numbers may be given."""
+
+    _fields_ = [("max_doubled_area_high", c_uint64), ("max_doubled_area_low", c_uint64), ("max_additional_vertices", c_uint64), ("rise", c_uint16), ("run", c_uint16), ("inside", c_bool)]
+
+
 STRUCTS: dict[str, type[Structure]] = {
     "dcel_mesh": Mesh,
     "dcel_half_edge": HalfEdge,
@@ -196,6 +206,7 @@ STRUCTS: dict[str, type[Structure]] = {
     "dcel_ends": Ends,
     "dcel_position": Position,
     "dcel_constrained": Constrained,
+    "dcel_refinement": Refinement,
 }
 
 # What a fault of each kind says.
@@ -236,6 +247,7 @@ _mesh = POINTER(Mesh)
 _opened = POINTER(Opened)
 _point = POINTER(Point)
 _position = POINTER(Position)
+_refinement = POINTER(Refinement)
 _removed = POINTER(Removed)
 _triangle = POINTER(Triangle)
 _triangulation = POINTER(Triangulation)
@@ -383,4 +395,5 @@ FUNCTIONS: dict[str, tuple[Any, tuple[Any, ...]]] = {
     "dcel_constrained_directed_edges": (Status, (_constrained, _half_edge, c_size_t, _uint64)),
     "dcel_constrained_constraints": (Status, (_constrained, _ends, c_size_t, _uint64)),
     "dcel_constrained_regions": (Status, (_constrained, _uint32, c_size_t, _uint64)),
+    "dcel_constrained_refine": (Status, (_constrained, _refinement, _uint64, _bool)),
 }

@@ -7,5 +7,6 @@ pub mod Lending
 pub mod Lists
 pub mod Loading
 pub mod Places
+pub mod Refining
 pub mod Removing
 pub mod Wholes

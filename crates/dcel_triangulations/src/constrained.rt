@@ -10,6 +10,7 @@ mod loading;
 mod locating;
 mod making;
 mod marks;
+mod refining;
 mod removing;
 mod triangulation;
 mod whole;
@@ -24,6 +25,7 @@ pub use loading::bulk_load;
 pub use locating::{locate, locate_all};
 pub use making::{clone, from_triangulation};
 pub use marks::{list_constraints, list_regions};
+pub use refining::{DcelRefinement, refine};
 pub use removing::remove;
 pub use triangulation::DcelConstrained;
 pub use whole::{

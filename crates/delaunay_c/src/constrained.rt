@@ -3,6 +3,7 @@
 mod constraints;
 mod lists;
 mod points;
+mod refining;
 mod whole;
 
 pub use constraints::{
@@ -19,6 +20,7 @@ pub use points::{
     dcel_constrained_bulk_load, dcel_constrained_insert, dcel_constrained_insert_all,
     dcel_constrained_locate, dcel_constrained_locate_all, dcel_constrained_remove,
 };
+pub use refining::dcel_constrained_refine;
 pub use whole::{
     dcel_constrained_clone, dcel_constrained_finish, dcel_constrained_free,
     dcel_constrained_from_triangulation, dcel_constrained_is_whole, dcel_constrained_new,

@@ -19,8 +19,9 @@ pub use constrained::{
     dcel_constrained_is_constraint, dcel_constrained_is_whole, dcel_constrained_locate,
     dcel_constrained_locate_all, dcel_constrained_neighbors, dcel_constrained_new,
     dcel_constrained_num_constraints, dcel_constrained_num_edges, dcel_constrained_num_triangles,
-    dcel_constrained_num_vertices, dcel_constrained_points, dcel_constrained_regions,
-    dcel_constrained_remove, dcel_constrained_remove_constraint, dcel_constrained_triangles,
+    dcel_constrained_num_vertices, dcel_constrained_points, dcel_constrained_refine,
+    dcel_constrained_regions, dcel_constrained_remove, dcel_constrained_remove_constraint,
+    dcel_constrained_triangles,
 };
 pub use lists::{
     dcel_triangulation_directed_edges, dcel_triangulation_edges, dcel_triangulation_hull,

@@ -34,12 +34,13 @@ FROM_BELOW = {
         "DcelPoint": ("dcel_triangulations", "dcel_point"),
         "DcelPosition": ("dcel_triangulations", "dcel_position"),
         "DcelAcross": ("dcel_triangulations", "dcel_across"),
+        "DcelRefinement": ("dcel_triangulations", "dcel_refinement"),
         "DcelHalfEdge": ("dcel_triangulations", "dcel_half_edge"),
         "Triangle": ("dcel_delaunay", "dcel_triangle"),
         "Ends": ("dcel_delaunay", "dcel_ends"),
     },
 }
-TYPES = {"u8": "uint8_t", "i32": "int32_t", "i64": "int64_t", "u32": "uint32_t", "u64": "uint64_t", "usize": "size_t"}
+TYPES = {"u8": "uint8_t", "u16": "uint16_t", "i32": "int32_t", "i64": "int64_t", "u32": "uint32_t", "u64": "uint64_t", "usize": "size_t"}
 TYPES |= {"f64": "double", "bool": "bool", "": "void"}
 EXPORT = re.compile(r'#\[unsafe\(no_mangle\)\]\s*(?:#\[[^\n]*\]\s*)?pub extern "C" fn (\w+)\(([^)]*?)\)(?: -> (\w+))?(?: \{|\n(.*?)^\{)', re.S | re.M)
 SAME = re.compile(r"ensures same \{ (?:\w+\.)?kept_in (\w+)\.new ≡ (?:\w+\.)?kept_in \1\.old \}")

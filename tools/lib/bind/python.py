@@ -15,7 +15,7 @@ from ctypes import POINTER, Structure, {types}
 from typing import Any
 
 '''
-TYPES = {f"{name}_t": f"c_{name}" for name in ("uint8", "uint32", "uint64", "int32", "int64")}
+TYPES = {f"{name}_t": f"c_{name}" for name in ("uint8", "uint16", "uint32", "uint64", "int32", "int64")}
 TYPES |= {"bool": "c_bool", "double": "c_double", "size_t": "c_size_t", "void": "None"}
 NUMBERS = {"UINT32_MAX": "2**32 - 1", "UINT64_MAX": "2**64 - 1"}
 WIDTH = 140

@@ -7,14 +7,14 @@ from bind.names import camel, members, short
 FOLDER = "bindings/rust/src/ffi"
 HEAD = "//! Made of `bindings/c/dcel.h` by `tools/bind --write`: {}\n\n"
 WIDTH = 100
-TYPES = {"bool": "bool", "size_t": "usize", "uint8_t": "u8", "uint32_t": "u32", "uint64_t": "u64", "int32_t": "i32", "int64_t": "i64"}
-TYPES |= {"double": "f64", "void": "c_void"}
+TYPES = {"bool": "bool", "size_t": "usize", "uint8_t": "u8", "uint16_t": "u16", "uint32_t": "u32", "uint64_t": "u64"}
+TYPES |= {"int32_t": "i32", "int64_t": "i64", "double": "f64", "void": "c_void"}
 # What is kept across calls, and the type that owns it.
 KEPT = {"dcel_mesh": "Mesh", "dcel_triangulation": "Triangulation", "dcel_constrained": "Constrained"}
 # That whose calls are made methods. Those of a triangulation are written by hand, as their statuses aren't all refusals of the crate.
 CALLED = "dcel_mesh"
 # What the crate does without: a mesh has what these lists have. Nothing of it is declared.
-WITHOUT = {"dcel_triangle", "dcel_across", "dcel_ends"}
+WITHOUT = {"dcel_triangle", "dcel_across", "dcel_ends", "dcel_refinement"}
 # Structs that are written by hand, as their fields are handles. What is made says that they lie as C has them.
 BY_HAND = {"dcel_half_edge": "HalfEdgeEntry"}
 SIZES = {"bool": 1, "uint8_t": 1, "uint32_t": 4, "uint64_t": 8, "size_t": 8}
