@@ -42,11 +42,12 @@ from ._grid import Grid
 from ._lines import replies
 from ._mesh import Dcel, HalfEdge, Legalized, Links, Opened, Removed
 from ._polygon import triangulate_polygon
+from ._refining import Refined
 
 __all__ = [
     "NO_LINK", "BadRing", "BadStrip", "ConstrainedDelaunay", "Crosses", "Dcel", "DcelError", "Delaunay", "EdgesStand", "Ended", "Fault",
     "FaultKind", "Faulty", "GivenUp", "Grid", "HalfEdge", "Inexact", "Legalized", "Links", "NoMesh", "NoRemoval", "NoRoom", "NoSuchEdge",
     "NoSuchFace", "NoSuchVertex", "NotBridge", "NotLineEnd", "NotOuter", "NotPath", "NotTriangle", "Opened", "OutOfMemory", "OutOfRange",
-    "Place", "RemovalOpen", "RemovalState", "Removed", "SameVertex", "Short", "Status", "Unfinished", "VertexInUse", "WouldLoop",
-    "WrongLists", "__version__", "replies", "triangulate_polygon",
+    "Place", "Refined", "RemovalOpen", "RemovalState", "Removed", "SameVertex", "Short", "Status", "Unfinished", "VertexInUse",
+    "WouldLoop", "WrongLists", "__version__", "replies", "triangulate_polygon",
 ]

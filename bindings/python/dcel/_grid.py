@@ -6,6 +6,7 @@ from array import array
 from collections.abc import Iterable
 from math import frexp, hypot, inf, isfinite, ldexp
 from numbers import Integral, Real
+from operator import index
 from typing import Any, NamedTuple, NoReturn
 
 from ._arrays import numpy, shaped
@@ -29,11 +30,19 @@ class Grid(NamedTuple):
     step: float
 
     @classmethod
-    def fit(cls, points: Iterable[Any]) -> Grid:
+    def fit(cls, points: Iterable[Any], free_bits: int = 0) -> Grid:
         """The finest grid on which these points, (n, 2), are in range: of which all coordinates are at most 2**53 steps from 0.
 
-        The nearest multiple of its step is then at most 2**-53 of the greatest coordinate away. Raises ValueError as `Delaunay` does."""
-        return cls(ldexp(1.0, power_of(floats(points, "points"))))
+        The nearest multiple of its step is then at most 2**-53 of the greatest coordinate away. With `free_bits` the step is so many times
+        doubled: on the finest grid of points that are rounded to this one, that many bits of each coordinate are 0. Raises ValueError as
+        `Delaunay` does, and for `free_bits` that aren't from 0 to 53."""
+        if isinstance(free_bits, bool) or not 0 <= index(free_bits) <= 53:
+            raise ValueError(f"free_bits: from 0 to 53, and not {free_bits!r}")
+        return cls(ldexp(1.0, power_of(floats(points, "points")) + index(free_bits)))
+
+    def round(self, points: Iterable[Any]) -> Any:
+        """The nearest points on the grid, (n, 2), of floats. Raises what `snap` does."""
+        return shaped(coordinates(snapped(floats(points, "points"), power_of_step(self.step), "points"), power_of_step(self.step)), 2, "d")
 
     def snap(self, points: Iterable[Any]) -> Any:
         """How many steps the coordinates of points are, rounded to the nearest whole number, of two to the even one: (n, 2), of 64 bits.
@@ -81,6 +90,13 @@ def snapped(flat: Any, power: int, name: str) -> Any:
             refuse_far(name, place // 2)
         steps.append(whole)
     return steps
+
+
+def coordinates(steps: Any, power: int) -> Any:
+    """The coordinates that are so many steps of 2**power, each exactly a float."""
+    if (found := numpy()) is not None:
+        return found.ldexp(found.asarray(steps).astype(found.float64), power)
+    return array("d", (ldexp(float(it), power) for it in steps))
 
 
 def clipped(flat: Any, power: int) -> tuple[Any, list[int]]:

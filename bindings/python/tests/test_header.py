@@ -23,7 +23,7 @@ HEADER = (FOLDER / "dcel.h").read_text()
 VERSIONS = {"dcel_version", f"dcel_version_{dcel.__version__.replace('.', '_')}"}
 # Those of triangulations that do for one what others do for all, or at once what others do, or keep nothing, or list what a class knows.
 SPARED = {"dcel_triangulate", *(f"dcel_triangulation_{it}" for it in ("insert_with_hint", "locate", "locate_with_hint", "nearest", "points"))}
-SPARED |= {f"dcel_constrained_{it}" for it in ("add_constraint", "bulk_load", "from_triangulation", "is_constraint", "locate", "points", "refine")}
+SPARED |= {f"dcel_constrained_{it}" for it in ("add_constraint", "bulk_load", "from_triangulation", "is_constraint", "locate")}
 NAMES = {
     None: "void", ctypes.c_bool: "bool", ctypes.c_uint8: "uint8_t", ctypes.c_uint32: "uint32_t", ctypes.c_uint64: "uint64_t",
     ctypes.c_int64: "int64_t", ctypes.c_uint16: "uint16_t",

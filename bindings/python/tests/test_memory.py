@@ -134,6 +134,7 @@ class Memory(unittest.TestCase):
             **{name: lambda made, name=name: getattr(made, name)(square) for name in ("find_simplex", "locate")},
             **{name: lambda made, name=name: getattr(made, name) for name in ("simplices", "neighbors", "edges", "hull", "constraints", "regions")},
             "remove_constraint": lambda made: made.remove_constraint(0, 1),
+            "refine": lambda made: made.refine(max_area=4),
         }
         standing = ConstrainedDelaunay(square, border)
         for name, call in calls.items():
