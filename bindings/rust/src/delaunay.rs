@@ -53,12 +53,14 @@ mod grid;
 mod kind;
 mod point;
 mod queries;
+mod refinement;
 
 pub use errors::{ConstraintError, InsertionError, LoadError};
 pub use grid::Grid;
 pub use kind::{Constrained, Kind, Unconstrained};
 pub use point::{HasPosition, Point2};
 pub use queries::PositionInTriangulation;
+pub use refinement::{AngleLimit, RefinementParameters, RefinementResult};
 
 use crate::Dcel;
 use crate::ffi::{Kept, Mesh, Point};

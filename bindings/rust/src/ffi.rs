@@ -21,7 +21,7 @@ use crate::refusal::Refusal;
 pub(crate) use declarations::STATUS_NAMES;
 use declarations::*;
 pub(crate) use declarations::{Fault, Legalized, NO_LINK, Opened, Removed};
-pub(crate) use declarations::{Point, Position};
+pub(crate) use declarations::{Point, Position, Refinement};
 pub(crate) use declarations::{ended, fault_kind, place, removal_state, status};
 use std::cell::UnsafeCell;
 use std::ptr;

@@ -5,8 +5,9 @@ mod plane;
 
 use dcel::Refusal;
 use dcel::delaunay::{
-    ConstrainedDelaunayTriangulation as Triangulation, ConstraintError, DelaunayTriangulation,
-    HasPosition, LoadError, Point2, PositionInTriangulation as Position,
+    AngleLimit, ConstrainedDelaunayTriangulation as Triangulation, ConstraintError,
+    DelaunayTriangulation, HasPosition, LoadError, Point2, PositionInTriangulation as Position,
+    RefinementParameters,
 };
 use dcel::handles::{FixedDirectedEdgeHandle, FixedUndirectedEdgeHandle, FixedVertexHandle};
 use plane::{Numbers, area, in_circle};
@@ -437,4 +438,120 @@ fn values_are_dropped_once() {
     drop(triangulation.remove(FixedVertexHandle::new(0)).unwrap());
     drop(triangulation.into_dcel());
     assert_eq!(drops.get(), 15);
+}
+
+/// The least angle of the inner faces of some depths, in degrees, but for corners between two
+/// constraints, and the largest doubled area.
+fn worst(triangulation: &Triangulation<Point2>, is_refined: impl Fn(u32) -> bool) -> (f64, i128) {
+    let regions = triangulation.regions();
+    let (mut angle, mut largest) = (180.0f64, 0);
+    for edge in triangulation.directed_edges() {
+        let face = edge.face().fix().index();
+        if edge.face().is_outer() || !is_refined(regions[face]) {
+            continue;
+        }
+        let corners = [edge.from(), edge.to(), edge.prev().from()].map(|it| it.position());
+        let [[ax, ay], [bx, by]] = [corners[1], corners[2]]
+            .map(|it| [it.x - corners[0].x, it.y - corners[0].y].map(|it| it as f64));
+        let sides = [edge, edge.prev()].map(|it| it.as_undirected().fix());
+        if !sides.iter().all(|it| triangulation.is_constraint_edge(*it)) {
+            angle = angle.min((area(corners) as f64).atan2(ax * bx + ay * by).to_degrees());
+        }
+        largest = largest.max(area(corners));
+    }
+    (angle, largest)
+}
+
+#[test]
+fn outlines_are_refined() {
+    const UNIT: i64 = 1 << 12;
+    const SIDE: i64 = 60 * UNIT;
+    let mut complete = 0;
+    for seed in 1..=100 {
+        let mut numbers = Numbers(seed);
+        let mut points: Vec<_> = [(-SIDE, -SIDE), (SIDE, -SIDE), (SIDE, SIDE), (-SIDE, SIDE)]
+            .map(|(x, y)| Point2::new(x, y))
+            .to_vec();
+        points.extend((0..numbers.below(8)).map(|_| {
+            let point = numbers.point(50);
+            Point2::new(UNIT * point.x, UNIT * point.y)
+        }));
+        let (mut triangulation, mut wanted) = (Triangulation::new().unwrap(), Wanted::default());
+        for point in &points {
+            triangulation.insert(*point).unwrap();
+            wanted.insert(*point);
+        }
+        for place in 0..points.len() {
+            let ends = [points[place], points[(place + 1) % 4]];
+            if wanted.can_add(ends) {
+                triangulation.add_constraint_edge(ends[0], ends[1]).unwrap();
+                wanted.add(ends);
+            }
+        }
+        let before = triangulation.num_vertices();
+        let (degree, excluded) = (numbers.below(22) as f64, seed % 2 == 0);
+        let largest = (SIDE as f64).powi(2) / (1 + numbers.below(10)) as f64;
+        let parameters = RefinementParameters::new()
+            .with_angle_limit(AngleLimit::from_deg(degree))
+            .with_max_allowed_area(largest)
+            .with_max_additional_vertices(100)
+            .exclude_outer_faces(excluded);
+        let result = triangulation.refine(parameters).unwrap();
+        assert!(triangulation.num_vertices() <= before + 100);
+        for vertex in (0..triangulation.num_vertices()).map(FixedVertexHandle::new) {
+            wanted.insert(triangulation.vertex(vertex).position());
+        }
+        check(&triangulation, &wanted);
+        let even = |it: u32| it % 2 == 0;
+        let (angle, area) = worst(&triangulation, |it| !excluded || !even(it));
+        // The limit is rounded up, so it is between these two.
+        let [least, most] = [degree - 1e-9, degree + 0.003]
+            .map(|limit| angle > limit && area as f64 <= 2.0 * largest);
+        assert!(least || !result.refinement_complete);
+        assert!(result.refinement_complete || !most);
+        complete += u32::from(result.refinement_complete);
+        let regions = triangulation.regions();
+        let faces = triangulation.inner_faces().map(|face| face.fix());
+        let outside = faces.filter(|it| excluded && even(regions[it.index()]));
+        assert!(outside.eq(result.excluded_faces));
+    }
+    assert!(complete > 50, "{complete}");
+}
+
+#[test]
+fn limits_that_are_no_numbers() {
+    let points = [(0, 0), (64, 0), (64, 64), (0, 64)].map(|(x, y)| Point2::new(x, y));
+    let sides = vec![[0, 1], [1, 2], [2, 3], [3, 0]];
+    let standing = Triangulation::bulk_load_cdt(points.to_vec(), sides).unwrap();
+    let refined = |parameters: RefinementParameters| {
+        let mut triangulation = standing.clone();
+        let result = triangulation.refine(parameters.with_max_additional_vertices(9));
+        (
+            result.unwrap().refinement_complete,
+            triangulation.num_vertices() > 4,
+        )
+    };
+    let any = RefinementParameters::new().with_angle_limit(AngleLimit::from_deg(-1.0));
+    for area in [f64::NAN, f64::NEG_INFINITY, -1.0, 0.0, 0.4, 1e-300] {
+        assert_eq!(refined(any.with_max_allowed_area(area)), (false, true));
+    }
+    for area in [2048.0, 1e300, f64::INFINITY] {
+        assert_eq!(refined(any.with_max_allowed_area(area)), (true, false));
+    }
+    let angle = |limit| refined(RefinementParameters::new().with_angle_limit(limit)).0;
+    for degree in [f64::NAN, f64::INFINITY, 60.1, 90.0, 1e300] {
+        assert!(!angle(AngleLimit::from_deg(degree)));
+    }
+    for degree in [f64::NEG_INFINITY, -1.0, 0.0, 1e-300, 45.0] {
+        assert!(angle(AngleLimit::from_deg(degree)));
+    }
+    for ratio in [f64::NAN, -1.0, 0.0, 0.5, 1e-300, f64::NEG_INFINITY] {
+        assert!(!angle(AngleLimit::from_radius_to_shortest_edge_ratio(
+            ratio
+        )));
+    }
+    for ratio in [1.0, 2.0, f64::INFINITY] {
+        assert!(angle(AngleLimit::from_radius_to_shortest_edge_ratio(ratio)));
+    }
+    assert_eq!(refined(any.with_max_allowed_area(100.0)), (false, true));
 }

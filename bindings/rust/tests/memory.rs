@@ -6,7 +6,7 @@ mod common;
 use common::*;
 use dcel::delaunay::{
     ConstrainedDelaunayTriangulation, ConstraintError, DelaunayTriangulation, InsertionError,
-    Point2,
+    Point2, RefinementParameters,
 };
 use dcel::operations::*;
 use dcel::{Dcel, Refusal};
@@ -259,4 +259,29 @@ fn points_and_constraints() {
         |refused| assert_eq!(refused, Refusal::OutOfMemory),
     );
     assert_eq!(needed, 2);
+}
+
+#[test]
+fn a_refinement() {
+    let corners = [(0, 0), (4096, 0), (4096, 1024), (0, 1024)].map(|(x, y)| Point2::new(x, y));
+    let sides = vec![[0, 1], [1, 2], [2, 3], [3, 0]];
+    let standing = ConstrainedDelaunayTriangulation::bulk_load_cdt(corners.to_vec(), sides);
+    let standing = standing.unwrap();
+    let parameters = RefinementParameters::new().exclude_outer_faces(true);
+    let needed = sweep(
+        |met| {
+            let mut triangulation = standing.clone(); // which has no room to spare
+            let made = with_memory(met, || triangulation.refine(parameters));
+            let is_refined = triangulation.num_vertices() > 4;
+            assert_eq!(is_refined, made.is_ok());
+            assert_eq!(
+                triangulation.vertices().count(),
+                triangulation.num_vertices()
+            );
+            assert!(triangulation.num_constraints() >= 4);
+            made
+        },
+        |refused| assert_eq!(refused, Refusal::OutOfMemory),
+    );
+    assert!(needed >= 5);
 }

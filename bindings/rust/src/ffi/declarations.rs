@@ -218,6 +218,24 @@ pub(super) struct RawConstrained {
     pub(super) is_open: bool,
 }
 
+/// What a refinement is to reach, and where it gives up. Each corner is to have at least the angle
+/// whose tangent is rise / run, unless both its sides are constraints: for 20 degrees that is 23853
+/// / 65535, and with a rise of 0 every angle will do. Each triangle is to have at most half the
+/// area max_doubled_area_high * 2^64 + max_doubled_area_low, in squares of the coordinates' unit;
+/// with a high half from 2^63 on, as UINT64_MAX, any area will do. With `inside` this is asked only
+/// of triangles of odd depth (dcel_constrained_regions), else of all. At most
+/// max_additional_vertices are added. Any numbers may be given. C's `dcel_refinement`.
+#[repr(C)]
+#[derive(Clone, Copy, Default)]
+pub(crate) struct Refinement {
+    pub(crate) max_doubled_area_high: u64,
+    pub(crate) max_doubled_area_low: u64,
+    pub(crate) max_additional_vertices: u64,
+    pub(crate) rise: u16,
+    pub(crate) run: u16,
+    pub(crate) inside: bool,
+}
+
 /// With it what uses the crate is linked with no library of another version than the crate's.
 #[used]
 static VERSION_WANTED: extern "C" fn() -> u32 = dcel_version_0_2_0;
@@ -615,6 +633,12 @@ unsafe extern "C" {
         from: u32,
         to: u32,
     ) -> bool;
+    pub(super) fn dcel_constrained_points(
+        triangulation: &mut RawConstrained,
+        points: *mut Point,
+        points_len: usize,
+        needed: &mut u64,
+    ) -> u32;
     pub(super) fn dcel_constrained_directed_edges(
         triangulation: &mut RawConstrained,
         half_edges: *mut HalfEdgeEntry,
@@ -626,5 +650,11 @@ unsafe extern "C" {
         depths: *mut u32,
         depths_len: usize,
         needed: &mut u64,
+    ) -> u32;
+    pub(super) safe fn dcel_constrained_refine(
+        triangulation: &mut RawConstrained,
+        parameters: &mut Refinement,
+        added: &mut u64,
+        reached: &mut bool,
     ) -> u32;
 }

@@ -8,6 +8,7 @@
 use super::declarations::*;
 use super::{HalfEdgeEntry, found};
 use crate::refusal::Refusal;
+use crate::slab::no_memory;
 use std::cell::UnsafeCell;
 use std::ptr;
 
@@ -295,5 +296,30 @@ impl Constrained {
             dcel_constrained_regions(it, depths.as_mut_ptr(), depths.len(), &mut needed)
         });
         Refusal::of(status)
+    }
+
+    /// Adds vertices, and returns whether each triangle is as asked then. The error says that memory
+    /// or numbers ran out; then some vertices are added.
+    pub(crate) fn refine(&mut self, mut wanted: Refinement) -> Result<bool, Refusal> {
+        let (mut added, mut reached) = (0, false);
+        let it = self.0.get_mut();
+        match dcel_constrained_refine(it, &mut wanted, &mut added, &mut reached) {
+            status::UNFINISHED => Err(Refusal::OutOfMemory),
+            status => Refusal::of(status).map(|()| reached),
+        }
+    }
+
+    /// Returns the points of all vertices, each at its number.
+    pub(crate) fn points(&self) -> Result<Vec<Point>, Refusal> {
+        let (mut points, mut needed) = (Vec::new(), 0);
+        points
+            .try_reserve_exact(self.num_vertices())
+            .map_err(no_memory)?;
+        points.resize(self.num_vertices(), Point::default());
+        // SAFETY: the slice lasts for the call.
+        let status = self.lend(|it| unsafe {
+            dcel_constrained_points(it, points.as_mut_ptr(), points.len(), &mut needed)
+        });
+        Refusal::of(status).map(|()| points)
     }
 }
