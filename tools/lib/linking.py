@@ -4,6 +4,7 @@ of dcel.h under their names, and nothing else."""
 import re
 import subprocess
 import tempfile
+from contextlib import contextmanager
 from pathlib import Path
 
 ROOT = Path(__file__).resolve().parents[2]
@@ -27,24 +28,32 @@ def run(*words):
     subprocess.run(words, check=True)
 
 
+@contextmanager
+def replaced(target):
+    """Another place to make a file, which then is put in the place of the target at once: who reads that has the old one or the new one."""
+    with tempfile.TemporaryDirectory(dir=Path(target).parent, prefix="made-") as work:
+        made = Path(work) / Path(target).name
+        yield made
+        made.replace(target)
+
+
 def make_static(target, *archives):
     """Makes one archive of several, with the functions of the header as its only names."""
-    with tempfile.TemporaryDirectory() as work:
+    with tempfile.TemporaryDirectory() as work, replaced(target) as made:
         whole, names = Path(work) / "dcel.o", Path(work) / "names"
         names.write_text("".join(f"{it}\n" for it in functions()))
         run("ld", "-r", "-o", whole, "--whole-archive", *archives)
         run("objcopy", "--strip-unneeded", "--remove-section=.llvm_addrsig", f"--keep-global-symbols={names}", whole)
-        Path(target).unlink(missing_ok=True)
-        run("ar", "rcsD", target, whole)
+        run("ar", "rcsD", made, whole)
 
 
 def make_shared(target, archive):
     """Makes a shared library of an archive."""
-    with tempfile.TemporaryDirectory() as work:
+    with tempfile.TemporaryDirectory() as work, replaced(target) as made:
         exports = Path(work) / "exports"
         exports.write_text(f"{{ global: {' '.join(f'{it};' for it in functions())} local: *; }};\n")
         words = [f"-Wl,{it}" for it in [*HARDENED, f"-soname,{SONAME}", "-Bsymbolic", f"--version-script={exports}"]]
-        run("cc", "-shared", "-s", *words, "-o", target, "-Wl,--whole-archive", archive, "-Wl,--no-whole-archive")
+        run("cc", "-shared", "-s", *words, "-o", made, "-Wl,--whole-archive", archive, "-Wl,--no-whole-archive")
 
 
 def oldest_glibc(*files):

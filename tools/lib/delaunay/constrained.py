@@ -10,7 +10,8 @@ from typing import NamedTuple
 
 from delaunay.asking import ended, numbers, run
 from delaunay.plane import (
-    Wrong, begun, check_cover, check_hull, check_neighbors, check_words, finds, hull_of, is_line, least_numbers, lies_inside, rounds, turn,
+    Wrong, begun, check_cover, check_hull, check_neighbors, check_words, finds, hull_of, is_line, least_numbers, lies_inside, neighbors_of, rounds,
+    turn,
 )
 from delaunay.points import LIMIT, somewhere
 
@@ -274,7 +275,7 @@ class Tried(NamedTuple):
 
 
 def check_set(rng, points, gone):
-    """Checks what the program answers about points and joins, and that it refuses joins. Returns what was tried."""
+    """Checks what the program answers about points and joins, and that it refuses joins. Returns what was tried, and the joins that are laid."""
     joins = Joins(some_pairs(rng, points), some_curves(rng, points)) if points else Joins([], [])
     lawful = lawful_part(points, gone, joins)
     is_refused = refusal_of(points, gone, joins) is not None
@@ -287,35 +288,40 @@ def check_set(rng, points, gone):
             judge_inside(points, lawful.curves, whole, told_of(points, gone, *lawful))
     except Wrong as wrong:
         raise Wrong(f"{wrong}\npairs: {joins.pairs}\ncurves: {joins.curves}") from wrong
-    return Tried(int(is_refused), len(lawful.all()), int(bool(lawful.curves)))
+    return Tried(int(is_refused), len(lawful.all()), int(bool(lawful.curves))), lawful
 
 
 # Faults that are planted, to see that each is found.
 
 def retold(points, right, triangles):
     """The same answers with other triangles."""
-    halves = {(a, b): number for number, row in enumerate(triangles) for a, b, _ in rounds(row)}
-    edges = sorted({(min(pair), max(pair)) for pair in halves})
+    edges = sorted({(min(pair[:2]), max(pair[:2])) for row in triangles for pair in rounds(row)})
     return right._replace(
         triangles=triangles,
-        neighbors=[tuple(halves.get((b, a), -1) for a, b in ((y, z), (z, x), (x, y))) for x, y, z in triangles],
+        neighbors=neighbors_of(triangles),
         edges=edges,
         stats=[*right.stats[:2], len(edges), len(triangles), *right.stats[4:]],
         off=["OFF", f"{len(points)} {len(triangles)} 0", *right.off[2:2 + len(points)], *(f"3 {a} {b} {c}" for a, b, c in triangles)],
     )
 
 
-def flips(points, right, marked, of_marked):
-    """The answers after a flip of each edge that is marked, or isn't, whose triangles make a convex whole."""
-    across = {(a, b): c for row in right.triangles for a, b, c in rounds(row)}
+def flipped(points, triangles, marked, of_marked):
+    """The triangles after a flip of each edge that is marked, or isn't, and whose triangles make a convex whole, and the corners of these."""
+    across = {(a, b): c for row in triangles for a, b, c in rounds(row)}
     for (a, b), c in across.items():
         d = across.get((b, a))
         ends = frozenset((points[a], points[b]))
         if d is None or (ends in marked) != of_marked:
             continue
         if turn(points[a], points[d], points[c]) > 0 and turn(points[d], points[b], points[c]) > 0:
-            rest = [row for row in right.triangles if row not in (begun(a, b, c), begun(b, a, d))]
-            yield (a, b, c, d), retold(points, right, [*rest, begun(a, d, c), begun(d, b, c)])
+            rest = [row for row in triangles if row not in (begun(a, b, c), begun(b, a, d))]
+            yield (a, b, c, d), [*rest, begun(a, d, c), begun(d, b, c)]
+
+
+def flips(points, right, marked, of_marked):
+    """The answers after each such flip."""
+    for corners, triangles in flipped(points, right.triangles, marked, of_marked):
+        yield corners, retold(points, right, triangles)
 
 
 def renumbered(right, old, new):

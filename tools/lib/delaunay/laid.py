@@ -1,5 +1,6 @@
 """Triangulations of points with constraints between them, as bindings list them: sets made at random, and exact checks of the lists."""
 
+from heapq import heapify, heappop, heappush
 from itertools import combinations
 from typing import NamedTuple
 
@@ -47,17 +48,22 @@ def marked_by(points, segments, laid):
 
 
 def depths(triangles, marked):
-    """The least number of marked edges on a way to each triangle from outside."""
+    """The least number of marked edges on a way to each triangle from outside: of ways that wait, the one past the fewest goes on first."""
     beside = {}
     for place, corners in enumerate(triangles):
         for pair in combinations(corners, 2):
             beside.setdefault(frozenset(pair), []).append(place)
-    found = [len(marked) + 1] * len(triangles)
-    for _ in triangles:
-        for edge, places in beside.items():
-            for to, by in ((places[0], places[-1]), (places[-1], places[0])):
-                found[to] = min(found[to], (0 if len(places) == 1 else found[by]) + (edge in marked))
-    return found
+    found = {}
+    waiting = [(int(edge in marked), places[0]) for edge, places in beside.items() if len(places) == 1]
+    heapify(waiting)
+    while waiting:
+        depth, place = heappop(waiting)
+        if place not in found:
+            found[place] = depth
+            for edge in map(frozenset, combinations(triangles[place], 2)):
+                for other in beside[edge]:
+                    heappush(waiting, (depth + (edge in marked), other))
+    return [found.get(place) for place in range(len(triangles))]
 
 
 def judge(live, marked, lists):
@@ -81,6 +87,8 @@ def judge(live, marked, lists):
     for name, found, its in (("edges", edges, wanted), ("constraints", constraints, marked)):
         if len(found) != len(its) or set(map(frozenset, found)) != its:
             raise Wrong(f"other {name}")
+    if not marked <= wanted:
+        raise Wrong("a constraint that isn't an edge")
     check_free_circles(triangles, marked)
     check_hull([stands(row) for row in lists.hull], hull)
     check_neighbors(Lists(list(map(tuple, lists.triangles)), list(map(tuple, lists.neighbors)), *lists[2:]))

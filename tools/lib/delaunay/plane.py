@@ -81,11 +81,14 @@ def least_numbers(points, gone):
     return {point: number for number, point in reversed(list(enumerate(points))) if number not in gone}
 
 
+def neighbors_of(triangles):
+    """The triangle across from each corner: the one that has the edge between the other two, or -1 where there is none."""
+    on = {(a, b): number for number, row in enumerate(triangles) for a, b, _ in rounds(row)}
+    return [tuple(on.get((b, a), -1) for a, b in ((y, z), (z, x), (x, y))) for x, y, z in triangles]
+
+
 def check_neighbors(answers):
-    """The triangle across from each corner has the edge between the other two, and none where there is no triangle."""
-    on = {(a, b): number for number, row in enumerate(answers.triangles) for a, b, _ in rounds(row)}
-    wanted = [tuple(on.get((b, a), -1) for a, b in ((y, z), (z, x), (x, y))) for x, y, z in answers.triangles]
-    if answers.neighbors != wanted:
+    if answers.neighbors != neighbors_of(answers.triangles):
         raise Wrong("--neighbors has others")
 
 
