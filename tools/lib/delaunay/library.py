@@ -3,7 +3,7 @@
 import functools
 import os
 from array import array
-from ctypes import CDLL, c_uint32, c_uint64
+from ctypes import CDLL, c_bool, c_uint32, c_uint64
 from importlib.util import module_from_spec, spec_from_file_location
 from pathlib import Path
 from typing import NamedTuple
@@ -16,6 +16,8 @@ FOLDER = Path(os.environ.get("DCEL_LIB_DIR") or ROOT / "crates/dcel_c/out")
 PREFIX = "dcel_constrained_"
 # What stands where there is no triangle, and for no vertex.
 NO_TRIANGLE, NONE = 2**32 - 1, 2**64 - 1
+# Twice an area, as if it had no limit.
+ANY_AREA = 2**128 - 1
 
 
 class Told(NamedTuple):
@@ -81,6 +83,14 @@ class Kept:
         moved = c_uint64()
         call("remove", self.kept, vertex, moved)
         return None if moved.value == NONE else moved.value
+
+    def refine(self, asked):
+        """Refines it to what is asked, as of `refined.Asked`. Returns how many points it says that it added, and whether all is as asked."""
+        high, low = divmod(ANY_AREA if asked.doubled_area is None else asked.doubled_area, 2**64)
+        given = declared().Refinement(high, low, asked.most, asked.rise, asked.run, asked.is_inside)
+        added, reached = c_uint64(), c_bool()
+        call("refine", self.kept, given, added, reached)
+        return added.value, reached.value
 
     def rows(self, name, kind, most, code="I"):
         """The numbers of each item of a list, which has at most so many."""
