@@ -11,30 +11,23 @@ use Rattle.dcel_maps.specs.Walking.{Leads}
 use Rattle.dcel_maps.proofs.Liveness.{closed-live}
 use Rattle.dcel_maps.proofs.maps.Halves.{rev_or_same}
 use Rattle.dcel_delaunay.specs.Removing.{Loses}
-use Rattle.dcel_delaunay.specs.Staying.{HasLooseEdges, IsLegalBut, KeepsStaying, LosesNoneStaying, StaysBetween}
+use Rattle.dcel_delaunay.specs.Staying.{HasConstraintAt, KeepsStaying, LosesNoneStaying, StaysBetween}
 use Rattle.dcel_delaunay.specs.declared.removed.Removed.{Removed}
 use Rattle.dcel_planar.specs.Growing.{Keeps}
 use Rattle.dcel_plane.specs.Plane.{origin_point, point_at}
 use Rattle.dcel_regions.specs.Marked.{is_constraint}
 use Rattle.dcel_regions.specs.declared.mark.Mark.{Mark}
 use Rattle.dcel_constrained.specs.Removing.{FreesEdgesOf, HasNoConstraintAt, KeepsOtherConstraints, LosesConstraintsOf}
-use Rattle.dcel_constrained.specs.Soundness.{AreConstrained, IsConstrained}
+use Rattle.dcel_constrained.specs.Soundness.{AreConstrained}
 use Rattle.dcel_constrained.specs.Splitting.{StaysMarked}
 use Rattle.dcel_constrained.proofs.Free.{end_kept, start_kept}
-use Rattle.dcel_constrained.proofs.Loose.{of_loose, of_stay, to_loose, to_stay}
+use Rattle.dcel_constrained.proofs.Loose.{of_stay, to_stay}
 use Rattle.dcel_constrained.proofs.Marking.{marked_below}
-use Rattle.dcel_constrained.proofs.Settled.{constrained_of, triangulated_of}
 
 module _ {DE F : Type 0} where
   -- marks are what stays
-  pub legal_of : (m : Mesh Point DE Mark F) (due : List ℕ) → IsConstrained m due → IsLegalBut is_constraint m due
-  legal_of m due sound = record { triangulated = triangulated_of m due sound; listed = to_loose m due sound.listed }
-
-  pub of_legal : (m : Mesh Point DE Mark F) (due : List ℕ) → IsLegalBut is_constraint m due → IsConstrained m due
-  of_legal m due sound = constrained_of m due sound.triangulated (of_loose m due sound.listed)
-
-  pub loose_from : (m : Mesh Point DE Mark F) (v : ℕ) → HasNoConstraintAt m v → HasLooseEdges is_constraint m v
-  loose_from m v none h out stay = none h out (of_stay m (h / 2) stay)
+  pub loose_from : (m : Mesh Point DE Mark F) (v : ℕ) → HasNoConstraintAt m v → ¬ HasConstraintAt is_constraint m v
+  loose_from m v none at = none at.0 at.1 (of_stay m (at.0 / 2) at.2)
 
   to_between : (m : Mesh Point DE Mark F) (a b : ℕ) → AreConstrained m a b → StaysBetween is_constraint m a b
   to_between m a b are = (are.0, are.1, to_stay m (are.0 / 2) are.2)

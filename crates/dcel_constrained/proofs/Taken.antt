@@ -1,35 +1,20 @@
 -- A vertex of constrained triangles removed: what is told of the mesh from before its edges were freed.
-use Rattle.std.proofs.Common.{◌≡◌, ℕ, List, [], Result, Ok, Err, IfErr, IfOk, OnOk, sym, ap, ◌∙◌, subst, arith}
+use Rattle.std.proofs.Common.{◌≡◌, ℕ, Result, Ok, Err, IfErr, IfOk, OnOk, sym, ap, ◌∙◌, subst, arith}
 use Rattle.dcel_maps.specs.Conditions.{HasRoom}
 use Rattle.dcel_maps.specs.Shapes.{Mesh, Shape}
 use Rattle.dcel_predicates.specs.declared.point.Point.{Point}
-use Rattle.dcel_delaunay.specs.Removing.{FailsToCutOut, FailsToRemove, IsInnerVertex, Loses}
+use Rattle.dcel_delaunay.specs.Removing.{FailsToRemove, FailsToTakeOut, IsInnerVertex, Loses}
 use Rattle.dcel_delaunay.specs.declared.errors.RemovalError.{RemovalError}
 use Rattle.dcel_delaunay.specs.declared.errors.RemovalError.TheVariants.{NoVertex, OutOfMemory, TooManyPoints, Unfinished}
 use Rattle.dcel_delaunay.specs.declared.removed.Removed.{Removed}
 use Rattle.dcel_delaunay.proofs.Lost.{lost_before}
-use Rattle.dcel_planar.specs.Growing.{IsDelaunayBut, IsFlat, Keeps}
+use Rattle.dcel_planar.specs.Growing.{Keeps}
 use Rattle.dcel_planar.specs.Outcomes.{IsWholeMesh}
 use Rattle.dcel_planar.specs.declared.planar.PlanarMesh.{PlanarMesh}
-use Rattle.dcel_planar.proofs.Whole.{flat_listed, way_flat}
 use Rattle.dcel_regions.specs.declared.mark.Mark.{Mark}
 use Rattle.dcel_constrained.specs.Removing.{FreesEdgesOf, LeavesConstraints, LosesConstraintsOf}
-use Rattle.dcel_constrained.specs.Soundness.{IsConstrained}
 
 module _ {DE F : Type 0} where
-  -- on a line nothing is circled
-  pub flat_sound : (m : Mesh Point DE Mark F) (due : List ℕ) → IsConstrained m due → IsFlat m → IsDelaunayBut m []
-  flat_sound m due sound flat = (way_flat m [] sound.closed flat sound.joined).sound
-
-  pub flat_constrained : (m : Mesh Point DE Mark F) (due : List ℕ) → IsDelaunayBut m [] → IsFlat m → IsConstrained m due
-  flat_constrained m due sound flat = record {
-    closed = sound.closed;
-    joined = sound.joined;
-    triangles = sound.triangles;
-    plane = sound.plane;
-    listed = λ u inner circled free. flat_listed m due flat u inner circled;
-  }
-
   module _ (old mid new : Mesh Point DE Mark F) (v : ℕ) (frees : FreesEdgesOf old mid v) where
     vertices : mid.shape.vertices ≡ old.shape.vertices
     vertices = ap (λ (s : Shape). s.vertices) frees.shape
@@ -45,13 +30,13 @@ module _ {DE F : Type 0} where
       edges = (let e = keeps.edges in let s = ap (λ (s : Shape). s.edges) frees.shape in omega (arith, e, s));
     }
 
-  -- where there is room, memory ran out
-  pub cut_keeps : (old new : Mesh Point DE Mark F) (due items : List ℕ) (v : ℕ) → ¬ (IsInnerVertex old.shape v × ¬ HasRoom old.shape 0 1 2) → (e : RemovalError)
-      → FailsToCutOut old new due items v e → Keeps old new
-  cut_keeps old new due items v room NoVertex fails = absurd fails
-  cut_keeps old new due items v room TooManyPoints fails = (let (below, inner, lacks, same, listed) = fails in absurd (room (inner, lacks)))
-  cut_keeps old new due items v room OutOfMemory fails = fails
-  cut_keeps old new due items v room (Unfinished removed) fails = absurd fails
+-- where there is room, memory ran out
+pub out_keeps : {A : Type 0} (old new : PlanarMesh Mark A) (v : ℕ) → ¬ (IsInnerVertex old.dcel.shape v × ¬ HasRoom old.dcel.shape 0 1 2) → (e : RemovalError) → FailsToTakeOut old new v e
+    → Keeps old.dcel new.dcel
+out_keeps old new v room NoVertex fails = absurd fails
+out_keeps old new v room TooManyPoints fails = absurd (room (fails.0, fails.1))
+out_keeps old new v room OutOfMemory fails = fails
+out_keeps old new v room (Unfinished removed) fails = absurd fails
 
 -- what the last flips return
 module _ {A : Type 0} (old new : PlanarMesh Mark A) (v : ℕ) (removed : Removed) where

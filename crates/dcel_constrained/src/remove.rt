@@ -2,6 +2,7 @@
 
 ghost use Rattle.std.specs.Prelude.{◌≡◌, ◌↔◌, ◌<◌, ◌/◌, IfErr, IfNone, IfOk, IfSome, IsTrue, OnErr, OnOk};
 ghost use Rattle.dcel_constrained.specs.Constrained.{marked_mesh};
+ghost use Rattle.dcel_constrained.specs.Constraints.{ListsFree};
 ghost use Rattle.dcel_constrained.specs.Removing.{FreesEdgesOf, HasNoConstraintAt, KeepsOtherConstraints, LeavesConstraints, LosesConstraintsOf};
 ghost use Rattle.dcel_constrained.specs.Soundness.{IsConstrained};
 ghost use Rattle.dcel_constrained.specs.Splitting.{StaysMarked};
@@ -16,10 +17,10 @@ ghost use Rattle.dcel_regions.specs.Marked.{IsMarked};
 
 use crate::mesh::{ConstrainedMesh, is_marked, set_mark};
 use crate::triangulation::ConstrainedTriangulation;
-use dcel_delaunay::{Due, RemovalError, Removed, remove_from_line, remove_from_triangles};
-use dcel_planar::{Point, outside_of};
+use dcel_delaunay::{RemovalError, Removed, remove_vertex};
+use dcel_planar::{PlanarMesh, Point, outside_of};
 use dcel_regions::Mark;
-use spade_dcel::handles::{FixedDirectedEdgeHandle, FixedVertexHandle};
+use spade_dcel::handles::{FixedDirectedEdgeHandle, FixedUndirectedEdgeHandle, FixedVertexHandle};
 use spade_dcel::iterators::{CCWEdgesNextBackFn, CircularIterator};
 use spade_dcel::laws::every_mesh;
 use std::alloc::{AllocError, Allocator};
@@ -60,7 +61,7 @@ impl<A: Allocator + Clone> ConstrainedTriangulation<A> {
         if lacks_room(&self.planar.dcel, vertex) {
             return Err(RemovalError::TooManyPoints);
         }
-        let Ok(removed) = take_out(&mut self.planar.dcel, &mut self.planar.due, vertex) else {
+        let Ok(removed) = take_out(&mut self.planar, vertex) else {
             return Err(RemovalError::OutOfMemory);
         };
         self.settle(removed)
@@ -101,36 +102,30 @@ fn lacks_room<A: Allocator>(dcel: &ConstrainedMesh<A>, vertex: FixedVertexHandle
 ///
 /// If memory runs out, the vertex stays; marked edges of it may be freed, and edges flipped.
 fn take_out<A: Allocator + Clone>(
-    dcel: &mut ConstrainedMesh<A>,
-    due: &mut Due<A>,
+    mesh: &mut PlanarMesh<Mark, A>,
     vertex: FixedVertexHandle,
 ) -> Result<Removed, AllocError>
-    requires sound { IsConstrained dcel.old due.old.items }
-    requires hull { IsOutlined dcel.old }
-    requires vertex { vertex < dcel.old.shape.vertices }
-    requires room { ¬ (IsInnerVertex dcel.old.shape vertex × ¬ HasRoom dcel.old.shape 0 1 2) }
-    ensures loses { IfOk result (Loses dcel.old dcel.new vertex) }
-    ensures constraints { OnOk result (LosesConstraintsOf dcel.old dcel.new vertex) }
-    ensures keeps { OnErr result (Keeps dcel.old dcel.new) }
-    ensures others { OnErr result (KeepsOtherConstraints dcel.old dcel.new vertex) }
-    ensures sound { IsConstrained dcel.new due.new.items }
-    ensures hull { IsOutlined dcel.new }
-    ensures mesh { IsMesh dcel.new }
+    requires listed { ListsFree mesh.old.dcel mesh.old.due.items }
+    requires hull { IsOutlined mesh.old.dcel }
+    requires vertex { vertex < mesh.old.dcel.shape.vertices }
+    requires room { ¬ (IsInnerVertex mesh.old.dcel.shape vertex × ¬ HasRoom mesh.old.dcel.shape 0 1 2) }
+    ensures loses { IfOk result (Loses mesh.old.dcel mesh.new.dcel vertex) }
+    ensures constraints { OnOk result (LosesConstraintsOf mesh.old.dcel mesh.new.dcel vertex) }
+    ensures keeps { OnErr result (Keeps mesh.old.dcel mesh.new.dcel) }
+    ensures others { OnErr result (KeepsOtherConstraints mesh.old.dcel mesh.new.dcel vertex) }
+    ensures listed { ListsFree mesh.new.dcel mesh.new.due.items }
+    ensures hull { IsOutlined mesh.new.dcel }
+    ensures mesh { IsMesh mesh.new.dcel }
 {
-    every_mesh(dcel);
-    let Ok(()) = free_edges_of(dcel, due, vertex) else {
+    every_mesh(&mesh.dcel);
+    let Ok(()) = free_edges_of(&mut mesh.dcel, &mut mesh.due, vertex) else {
         return Err(AllocError);
     };
-    if dcel.num_faces() == 1 {
-        let removed = remove_from_line(dcel, vertex);
-        every_mesh(dcel);
-        return Ok(removed);
-    }
-    let Ok(removed) = remove_from_triangles(dcel, due, vertex) else {
-        every_mesh(dcel);
+    let Ok(removed) = remove_vertex(mesh, vertex) else {
+        every_mesh(&mesh.dcel);
         return Err(AllocError);
     };
-    every_mesh(dcel);
+    every_mesh(&mesh.dcel);
     Ok(removed)
 }
 
@@ -139,7 +134,7 @@ fn take_out<A: Allocator + Clone>(
 /// It goes around the vertex from one to the next. If memory runs out, some may be marked still.
 fn free_edges_of<A: Allocator>(
     dcel: &mut ConstrainedMesh<A>,
-    due: &mut Due<A>,
+    due: &mut Vec<FixedUndirectedEdgeHandle, A>,
     vertex: FixedVertexHandle,
 ) -> Result<(), AllocError>
     requires sound { IsConstrained dcel.old due.old.items }

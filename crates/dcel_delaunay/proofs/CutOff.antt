@@ -40,12 +40,12 @@ use Rattle.dcel_plane.proofs.removal.Flattened as flattening
 use Rattle.dcel_plane.proofs.removal.Renumbering.{cleanup_inner, cleanup_was_inner}
 use Rattle.dcel_plane.proofs.removal.Stripping.{corner_hollow, corner_lies, corner_strip, strip_given_up}
 use Rattle.dcel_plane.proofs.removal.Strips.{cut_lists, cut_plane, cut_plane_but, flat_corner_convex, flat_corner_hull, hollow_convex, hollow_outline, hollow_strung}
-use Rattle.dcel_planar.specs.Growing.{HasHull}
+use Rattle.dcel_planar.specs.Growing.{HasHull, IsTriangleMesh}
 use Rattle.dcel_planar.specs.Legalization.{HasToStay, ListsLoose}
 use Rattle.dcel_planar.proofs.Staying.{listed_stays, staying, to_circled}
 use Rattle.dcel_delaunay.specs.Removing.{HasOutline, IsHullCorner, CutsOff, IsGivenUp, IsStrung, LiesFlat}
 use Rattle.dcel_planar.proofs.Counting.{flipped_joined, live_vertices}
-use Rattle.dcel_delaunay.specs.Staying.{HasLooseEdges, IsLegalBut, KeepsStaying}
+use Rattle.dcel_delaunay.specs.Staying.{HasConstraintAt, KeepsStaying, LeavesLegal}
 use Rattle.dcel_delaunay.proofs.Staying.{LosesSpokes, flip_listed, flip_staying, of_circled, spokes_staying, stay_below}
 
 -- the counts of Euler's formula, with one face less than edges given up
@@ -97,8 +97,8 @@ module _ {DE UE F : Type 0} where
           fresh = λ u past stay. stay_below stays m mesh u past stay;
         }
 
-    given_up : {A : Type 0} (out : IsolateVertexResult A) → HasOpened us fs [] 0 out → TrianglesTurnLeft (point_at m) n.shape → ListsLoose stays n due → HasOutline n ⊎ IsStrung n
-        → IsGivenUp stays m n v due out
+    given_up : {A : Type 0} (out : IsolateVertexResult A) → HasOpened us fs [] 0 out → TrianglesTurnLeft (point_at m) n.shape → (ListsLoose stays m due → ListsLoose stays n due)
+        → HasOutline n ⊎ IsStrung n → IsGivenUp stays m n v due due out
     given_up out has plane lists left =
         let given = strip_given_up m mesh (strip_of m.shape h) strip in
         record {
@@ -120,9 +120,10 @@ module _ {DE UE F : Type 0} where
         }
 
   -- the same of a mesh that had these vertices before an edge was flipped
-  of_old : {A : Type 0} (stays : UE → Bool) (old m n : Mesh Point DE UE F) (v : ℕ) (due : List ℕ) (out : IsolateVertexResult A) → m.shape.vertices ≡ old.shape.vertices
-      → m.vertex_data ≡ old.vertex_data → KeepsStaying stays old m → IsGivenUp stays m n v due out → IsGivenUp stays old n v due out
-  of_old stays old m n v due out vertices points keeps given = record {
+  of_old : {A : Type 0} (stays : UE → Bool) (old m n : Mesh Point DE UE F) (v : ℕ) (first due items : List ℕ) (out : IsolateVertexResult A) → m.shape.vertices ≡ old.shape.vertices
+      → m.vertex_data ≡ old.vertex_data → KeepsStaying stays old m → (ListsLoose stays old first → ListsLoose stays m due) → IsGivenUp stays m n v due items out
+      → IsGivenUp stays old n v first items out
+  of_old stays old m n v first due items out vertices points keeps lists given = record {
     mesh = given.mesh;
     vertices = given.vertices ∙ vertices;
     points = given.points ∙ points;
@@ -133,7 +134,7 @@ module _ {DE UE F : Type 0} where
     euler = (let e = given.euler in omega (arith, e, vertices));
     triangles = given.triangles;
     plane = given.plane;
-    listed = given.listed;
+    listed = λ was. given.listed (lists was);
     left = given.left;
     staying = λ a b not_a not_b. (
       λ was. (given.staying a b not_a not_b).0 ((keeps a b).0 was),
@@ -161,13 +162,13 @@ module _ {DE UE F : Type 0} where
     of_old_shape P holds = subst P (sym but_anchors) holds
 
     -- whatever more is listed
-    pub round_sound : (stays : UE → Bool) (due items more : List ℕ) → items ≡ due ++ more → IsLegalBut stays m due → IsLegalBut stays new items
+    pub round_sound : (stays : UE → Bool) (due items more : List ℕ) → items ≡ due ++ more → IsTriangleMesh m → LeavesLegal stays m new due items
     round_sound stays due items more listed sound =
-        subst (λ (l : List ℕ). IsLegalBut stays new l) (sym listed)
-        (of_old_shape (λ k. IsLegalBut stays k (due ++ more)) (record {
+        subst (λ (l : List ℕ). LeavesLegal stays m new due l) (sym listed)
+        (of_old_shape (λ k. LeavesLegal stays m k due (due ++ more)) (record {
           triangulated = record { closed = sound.closed; joined = sound.joined; triangles = sound.triangles; plane = sound.plane };
-          listed = λ w is.
-              (let found = sound.listed w (record { inner = is.inner; circled = is.circled; loose = is.loose }) in let c = count-append w due more in omega (arith, found, c));
+          listed = λ lists w is.
+              (let found = lists w (record { inner = is.inner; circled = is.circled; loose = is.loose }) in let c = count-append w due more in omega (arith, found, c));
         }))
 
     pub round_staying : (stays : UE → Bool) → KeepsStaying stays m new
@@ -179,7 +180,7 @@ module _ {DE UE F : Type 0} where
     pub round_hull : HasHull m → HasHull new
     round_hull has = of_old_shape (λ k. HasHull k) (record { inner = has.inner; convex = has.convex; hull = has.hull })
 
-  module _ (stays : UE → Bool) (m : Mesh Point DE UE F) (mesh : IsMesh m) (due : List ℕ) (sound : IsLegalBut stays m due) (v h : ℕ) (corner : IsHullCorner m v h) where
+  module _ (stays : UE → Bool) (m : Mesh Point DE UE F) (mesh : IsMesh m) (due : List ℕ) (sound : IsTriangleMesh m) (v h : ℕ) (corner : IsHullCorner m v h) where
     abbrev s : Shape
     s = m.shape
 
@@ -245,15 +246,15 @@ module _ {DE UE F : Type 0} where
           ]
 
       hollow_given : {A : Type 0} (out : IsolateVertexResult A) → HasOpened (strip_edges m.shape (strip_of m.shape h)) (strip_faces m.shape (strip_of m.shape h)) [] 0 out
-          → IsGivenUp stays m (strip_cut m (strip_of m.shape h)) v due out
+          → IsGivenUp stays m (strip_cut m (strip_of m.shape h)) v due due out
       hollow_given out has =
           given_up m mesh sound.closed sound.triangles (sound.joined.euler (live_vertices m mesh h corner.outside.live)) v h corner_around after due stays out has
-          (cut_plane m mesh sound.closed list own (point_at m) sound.plane) (cut_loose stays m mesh sound.closed list own due sound.listed) left
+          (cut_plane m mesh sound.closed list own (point_at m) sound.plane) (cut_loose stays m mesh sound.closed list own due) left
 
     -- the same of the call
-    pub hollow_gone : {A : Type 0} (new : Mesh Point DE UE F) (out : IsolateVertexResult A) → ¬ LiesFlat m h → CutsOff m new h out → IsGivenUp stays m new v due out
+    pub hollow_gone : {A : Type 0} (new : Mesh Point DE UE F) (out : IsolateVertexResult A) → ¬ LiesFlat m h → CutsOff m new h out → IsGivenUp stays m new v due due out
     hollow_gone new out turn cut =
-        subst (λ (k : Mesh Point DE UE F). IsGivenUp stays m k v due out) (sym cut.is)
+        subst (λ (k : Mesh Point DE UE F). IsGivenUp stays m k v due due out) (sym cut.is)
         (hollow_given turn (subst (λ (k : Mesh Point DE UE F). IsMesh k) cut.is cut.mesh) out cut.answer)
 
     -- a corner between its neighbors, by a flip
@@ -326,12 +327,12 @@ module _ {DE UE F : Type 0} where
             left_of n f d k e w c is down one edges two many same = omega (arith, is, down, one, edges, two, many, same)
 
         flat_given : {A : Type 0} (out : IsolateVertexResult A) → HasOpened (strip_edges turned.shape rest) (strip_faces turned.shape rest) [] 0 out
-            → IsGivenUp stays turned cut_after v ((due ++ u ∷ []) ++ sides_beside m.shape u) out
+            → IsGivenUp stays turned cut_after v ((due ++ u ∷ []) ++ sides_beside m.shape u) ((due ++ u ∷ []) ++ sides_beside m.shape u) out
         flat_given out has =
             given_up turned mesh_after sound.closed triangles_after ((flipped_joined m u sound.joined).euler (live_vertices m mesh h corner.outside.live)) v h flattened.around after
             ((due ++ u ∷ []) ++ sides_beside m.shape u) stays out has
             (cut_plane_but turned mesh_after sound.closed rest own_after (point_at m) flattened.but)
-            (cut_loose stays turned mesh_after sound.closed rest own_after ((due ++ u ∷ []) ++ sides_beside m.shape u) (flip_listed stays m mesh u can_flip due sound.listed))
+            (cut_loose stays turned mesh_after sound.closed rest own_after ((due ++ u ∷ []) ++ sides_beside m.shape u))
             (inl (record {
               inner = more;
               convex = flat_corner_convex turned mesh_after sound.closed rest own_after (point_at m) triangles_after convex_after hull_after flattened.two flattened.flat;
@@ -339,23 +340,25 @@ module _ {DE UE F : Type 0} where
             }))
 
       -- the flipped edge is one of v
-      loose_u : HasLooseEdges stays m v → ¬ HasToStay stays m (turns (ccw_of m.shape) 2 h / 2)
-      loose_u loose =
+      loose_u : ¬ HasConstraintAt stays m v → ¬ HasToStay stays m (turns (ccw_of m.shape) 2 h / 2)
+      loose_u loose stay =
           let live = corner.outside.live in
           let next = ccw_of m.shape h in
           let once = rev_live (map_of m.shape) (prev_of m.shape h) (prev-live mesh.sound h live) in
-          loose (turns (ccw_of m.shape) 2 h) (record {
+          let out : IsOutEdge m.shape v (turns (ccw_of m.shape) 2 h) = record {
             live = rev_live (map_of m.shape) (prev_of m.shape next) (prev-live mesh.sound next once);
             start = ends_before m mesh next once ∙ ends_before m mesh h live ∙ start;
-          })
+          } in
+          loose (turns (ccw_of m.shape) 2 h, out, stay)
 
-      pub flat_gone : {A : Type 0} → HasLooseEdges stays m v → (mid new : Mesh Point DE UE F) (out : IsolateVertexResult A) (items : List ℕ) → mid ≡ edge_flipped m (turns (ccw_of m.shape) 2 h / 2)
-          → items ≡ (due ++ (turns (ccw_of m.shape) 2 h / 2) ∷ []) ++ sides_beside m.shape (turns (ccw_of m.shape) 2 h / 2) → CutsOff mid new h out → IsGivenUp stays m new v items out
+      pub flat_gone : {A : Type 0} → ¬ HasConstraintAt stays m v → (mid new : Mesh Point DE UE F) (out : IsolateVertexResult A) (items : List ℕ) → mid ≡ edge_flipped m (turns (ccw_of m.shape) 2 h / 2)
+          → items ≡ (due ++ (turns (ccw_of m.shape) 2 h / 2) ∷ []) ++ sides_beside m.shape (turns (ccw_of m.shape) 2 h / 2) → CutsOff mid new h out → IsGivenUp stays m new v due items out
       flat_gone loose mid new out items is listed cut_mid =
           let cut_turned : CutsOff turned new h out = subst (λ (k : Mesh Point DE UE F). CutsOff k new h out) is cut_mid in
-          subst (λ (l : List ℕ). IsGivenUp stays m new v l out) (sym listed)
-          (of_old stays m turned new v ((due ++ u ∷ []) ++ sides_beside m.shape u) out refl refl (flip_staying stays m u (loose_u loose))
-          (subst (λ (k : Mesh Point DE UE F). IsGivenUp stays turned k v ((due ++ u ∷ []) ++ sides_beside m.shape u) out) (sym cut_turned.is)
+          subst (λ (l : List ℕ). IsGivenUp stays m new v due l out) (sym listed)
+          (of_old stays m turned new v due ((due ++ u ∷ []) ++ sides_beside m.shape u) ((due ++ u ∷ []) ++ sides_beside m.shape u) out refl refl (flip_staying stays m u (loose_u loose))
+          (flip_listed stays m mesh u can_flip due)
+          (subst (λ (k : Mesh Point DE UE F). IsGivenUp stays turned k v ((due ++ u ∷ []) ++ sides_beside m.shape u) ((due ++ u ∷ []) ++ sides_beside m.shape u) out) (sym cut_turned.is)
           (flat_given (subst (λ (k : Mesh Point DE UE F). IsMesh k) cut_turned.is cut_turned.mesh) out cut_turned.answer)))
 
       -- the flip, as the calls make it
@@ -366,8 +369,8 @@ module _ {DE UE F : Type 0} where
         pub mid_around : IsStripAround mid.shape v h
         mid_around = subst (λ (k : Mesh Point DE UE F). IsStripAround k.shape v h) (sym at_mid) flattened.around
 
-        pub mid_gone : {A : Type 0} → HasLooseEdges stays m v → (new : Mesh Point DE UE F) (out : IsolateVertexResult A) (items : List ℕ) → items ≡ (due ++ edge ∷ []) ++ sides_beside m.shape edge
-            → CutsOff mid new h out → IsGivenUp stays m new v items out
+        pub mid_gone : {A : Type 0} → ¬ HasConstraintAt stays m v → (new : Mesh Point DE UE F) (out : IsolateVertexResult A) (items : List ℕ) → items ≡ (due ++ edge ∷ []) ++ sides_beside m.shape edge
+            → CutsOff mid new h out → IsGivenUp stays m new v due items out
         mid_gone loose new out items listed =
             flat_gone loose mid new out items at_mid (listed ∙ ap (λ (k : ℕ). (due ++ k ∷ []) ++ sides_beside m.shape k) is_edge)
 
@@ -391,7 +394,7 @@ module _ {DE UE F : Type 0} where
             all_four : new ≡ flips 4 m (turns (ccw_of m.shape) 2 h / 2)
             all_four = back ∙ ap (λ (n : Mesh Point DE UE F). flips 3 n edge) (same_mid ∙ at_mid) ∙ ap (λ (j : ℕ). flips 3 turned j) is_edge
 
-            pub back_sound : (items : List ℕ) → items ≡ (due ++ edge ∷ []) ++ sides_beside m.shape edge → IsLegalBut stays new items
+            pub back_sound : (items : List ℕ) → items ≡ (due ++ edge ∷ []) ++ sides_beside m.shape edge → LeavesLegal stays m new due items
             back_sound items listed =
                 round_sound m new u goes_round all_four stays due items ((edge ∷ []) ++ sides_beside m.shape edge) (listed ∙ simp append_assoc) sound
 
@@ -412,8 +415,8 @@ module _ {DE UE F A E : Type 0} where
   }
   cut_from (Err e) old new h items is mesh edit answer = tt
 
-  module _ (stays : UE → Bool) (m : Mesh Point DE UE F) (mesh : IsMesh m) (due : List ℕ) (sound : IsLegalBut stays m due) (v h : ℕ) (corner : IsHullCorner m v h) where
-    pub cut_given : (r : Result (IsolateVertexResult A) E) (new : Mesh Point DE UE F) → ¬ LiesFlat m h → IfOk r (CutsOff m new h) → IfOk r (IsGivenUp stays m new v due)
+  module _ (stays : UE → Bool) (m : Mesh Point DE UE F) (mesh : IsMesh m) (due : List ℕ) (sound : IsTriangleMesh m) (v h : ℕ) (corner : IsHullCorner m v h) where
+    pub cut_given : (r : Result (IsolateVertexResult A) E) (new : Mesh Point DE UE F) → ¬ LiesFlat m h → IfOk r (CutsOff m new h) → IfOk r (IsGivenUp stays m new v due due)
     cut_given (Ok out) new turn given = hollow_gone stays m mesh due sound v h corner new out turn given
     cut_given (Err e) new turn given = tt
 

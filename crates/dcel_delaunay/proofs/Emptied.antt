@@ -1,5 +1,5 @@
 -- A vertex inside of triangles given up, and the hole filled: what is left.
-use Rattle.std.proofs.Common.{◌≡◌, ◌≢◌, inl, inr, ℕ, ◌+◌, ◌/◌, ◌<◌, ◌≤◌, Bool, List, ◌∷◌, ◌++◌, All, Option, length, reverse, slice_get, slice_index_or, append_assoc, refl, sym, ap, ◌∙◌, subst, arith}
+use Rattle.std.proofs.Common.{◌≡◌, ◌≢◌, inl, inr, ℕ, ◌+◌, ◌/◌, ◌<◌, ◌≤◌, Bool, false, List, ◌∷◌, ◌++◌, All, Option, length, reverse, slice_get, slice_index_or, append_assoc, refl, sym, ap, ◌∙◌, subst, arith}
 use Rattle.std.specs.Option.{option_map}
 use Rattle.std.proofs.lemmas.Bool.{cases_eq, cases_lt}
 use Rattle.std.proofs.lemmas.List.{get_or_append_left, length-map, length-reverse}
@@ -26,10 +26,10 @@ use Rattle.dcel_plane.specs.covering.Covering.{IsConvex, IsHull}
 use Rattle.dcel_plane.proofs.removal.Deleting.{by_three, four_plane, hole_convex, hole_hull, hole_lists, three_plane}
 use Rattle.dcel_plane.proofs.removal.Renumbering.{cleanup_inner}
 use Rattle.dcel_plane.proofs.removal.Holes.{IsHole, half_of_triangle, hole_is, side_listed}
+use Rattle.dcel_planar.specs.Growing.{IsTriangleMesh}
 use Rattle.dcel_planar.specs.Legalization.{HasToStay, ListsLoose}
 use Rattle.dcel_planar.proofs.Staying.{listed_stays, staying, to_circled}
 use Rattle.dcel_delaunay.specs.Removing.{IsFilled, IsGivenUp, IsThinnedOut}
-use Rattle.dcel_delaunay.specs.Staying.{DefaultIsLoose, IsLegalBut}
 use Rattle.dcel_delaunay.proofs.Staying.{LosesSpokes, loose_after, same_before, spokes_staying, stay_below}
 
 -- the counts of Euler's formula, with k edges and k faces round the vertex
@@ -39,6 +39,10 @@ counts v e f vn en fn k a b euler same edges faces equal = omega (arith, euler, 
 -- the result names what the record gives up
 abbrev Named : {A : Type 0} → Removal → IsolateVertexResult A → Type 0
 Named r out = IsListed r out.edges_to_remove.items out.faces_to_remove.items
+
+-- an edge with default data need not stay
+abbrev DefaultIsLoose : {UE : Type 0} → (UE → Type 0) → (UE → Bool) → Type 0
+DefaultIsLoose {UE} is_default stays = (datum : UE) → is_default datum → stays datum ≡ false
 
 -- of triangles n and n + 1 the edges are listed
 two_listed : (u : ℕ) (a b : List ℕ) → 0 < count_of u b → 0 < count_of u (a ++ b)
@@ -52,7 +56,7 @@ module _ {DE UE F : Type 0} where
   pub at_points : (P : (ℕ → Point) → Type 0) (m n : Mesh Point DE UE F) → n.vertex_data ≡ m.vertex_data → P (point_at m) → P (point_at n)
   at_points P m n same holds = subst (λ (points : List Point). P (λ v. slice_index_or points v origin_point)) (sym same) holds
 
-  module _ (stays : UE → Bool) (m : Mesh Point DE UE F) (mesh : IsMesh m) (due : List ℕ) (sound : IsLegalBut stays m due) (v : ℕ) (thin : IsThinnedOut m v) (border : List ℕ) (filled : IsFilled m v border)
+  module _ (stays : UE → Bool) (m : Mesh Point DE UE F) (mesh : IsMesh m) (due : List ℕ) (sound : IsTriangleMesh m) (v : ℕ) (thin : IsThinnedOut m v) (border : List ℕ) (filled : IsFilled m v border)
       (halves : List DE) (edges : List UE) (faces : List F) (after : IsMesh (hole_filled m v border halves edges faces)) where
     abbrev n : Mesh Point DE UE F
     n = hole_filled m v border halves edges faces
@@ -97,12 +101,12 @@ module _ {DE UE F : Type 0} where
 
     -- the new faces are listed
     lists_after : (list : List ℕ) → ((f h : ℕ) → face_count m.shape ≤ f → f < face_count n.shape → IsLive n.shape h → face_of n.shape h ≡ f → 0 < count_of (h / 2) list)
-        → ListsLoose stays n (due ++ list)
-    lists_after list each u is =
+        → ListsLoose stays m due → ListsLoose stays n (due ++ list)
+    lists_after list each lists u is =
         let stay = staying stays m in
         let found : 0 < count_of u ((due ++ stay) ++ list) =
         hole_lists m mesh sound.closed border v filled.round halves edges faces (point_at m) (due ++ stay) list
-        (λ h live past. each (face_of n.shape h) h past ((map-sound after.sound).below_faces h live) live refl) (to_circled stays m due sound.listed) u is.inner
+        (λ h live past. each (face_of n.shape h) h past ((map-sound after.sound).below_faces h live) live refl) (to_circled stays m due lists) u is.inner
         (at_points (λ at. IsCircled at n.shape u) n m (sym hole.points) is.circled) in
         let all = count-append u (due ++ stay) list in
         let both = count-append u due stay in
@@ -112,7 +116,7 @@ module _ {DE UE F : Type 0} where
           | inr none ↦ omega (arith, found, all, both, wanted, none)
         ]
 
-    three_listed : length border ≡ 3 → ListsLoose stays n (due ++ edges_inserted n (face_count m.shape))
+    three_listed : length border ≡ 3 → ListsLoose stays m due → ListsLoose stays n (due ++ edges_inserted n (face_count m.shape))
     three_listed three =
         lists_after (edges_inserted n (face_count m.shape)) (λ f h past below live on.
         let counted = hole.faces in
@@ -120,7 +124,7 @@ module _ {DE UE F : Type 0} where
         side_listed n after (face_count m.shape) first_new h live (on ∙ is))
 
     four_listed : length border ≡ 4
-        → ListsLoose stays n (due ++ (edges_inserted n (face_count m.shape) ++ edges_inserted n (face_count m.shape + 1)))
+        → ListsLoose stays m due → ListsLoose stays n (due ++ (edges_inserted n (face_count m.shape) ++ edges_inserted n (face_count m.shape + 1)))
     four_listed four =
         let near = edges_inserted n (face_count m.shape) in
         let far = edges_inserted n (face_count m.shape + 1) in
@@ -134,7 +138,7 @@ module _ {DE UE F : Type 0} where
         ])
 
     given_up : {A : Type 0} (list : List ℕ) (out : IsolateVertexResult A) → HasFilled m.shape border (edges_at m v) (faces_at m v) out
-        → ListsLoose stays n list → LosesSpokes stays m n v → IsGivenUp stays m n v list out
+        → (ListsLoose stays m due → ListsLoose stays n list) → LosesSpokes stays m n v → IsGivenUp stays m n v due list out
     given_up list out has lists spokes =
         let some = thin.below in
         let (h, live, on) = half_of_triangle n after (face_count m.shape) first_new in
@@ -187,7 +191,7 @@ module _ {DE UE F : Type 0} where
         })
 
   -- the same of the calls, whatever data are put at the new edge and the new faces
-  module _ (stays : UE → Bool) (is_half : DE → Type 0) (is_edge : UE → Type 0) (is_face : F → Type 0) (m new : Mesh Point DE UE F) (mesh : IsMesh m) (due : List ℕ) (sound : IsLegalBut stays m due) (v : ℕ)
+  module _ (stays : UE → Bool) (is_half : DE → Type 0) (is_edge : UE → Type 0) (is_face : F → Type 0) (m new : Mesh Point DE UE F) (mesh : IsMesh m) (due : List ℕ) (sound : IsTriangleMesh m) (v : ℕ)
       (thin : IsThinnedOut m v) (border : List ℕ) (filled : IsFilled m v border) (fills : FillsHole is_half is_edge is_face border new (hole_filled m v border)) (after : IsMesh new) where
     done : IsMesh (hole_filled m v border fills.directed_data fills.undirected_data fills.face_data)
     done = subst (λ (k : Mesh Point DE UE F). IsMesh k) fills.is after
@@ -212,21 +216,21 @@ module _ {DE UE F : Type 0} where
         given_spokes stays m mesh due sound v thin border filled fills.directed_data fills.undirected_data fills.face_data done is_edge default fills.undirected_default
 
     pub filled_three : {A : Type 0} → DefaultIsLoose is_edge stays → (list : List ℕ) (out : IsolateVertexResult A) (f : ℕ) → HasFilled m.shape border (edges_at m v) (faces_at m v) out → length border ≢ 4
-        → f ≡ face_count m.shape → list ≡ due ++ edges_inserted new f → IsGivenUp stays m new v list out
+        → f ≡ face_count m.shape → list ≡ due ++ edges_inserted new f → IsGivenUp stays m new v due list out
     filled_three default list out f has not is listed =
-        subst (λ (l : List ℕ). IsGivenUp stays m new v l out) (sym (listed ∙ ap (λ (i : ℕ). due ++ edges_inserted new i) is))
-        (subst (λ (k : Mesh Point DE UE F). IsGivenUp stays m k v (due ++ edges_inserted k (face_count m.shape)) out) (sym fills.is)
+        subst (λ (l : List ℕ). IsGivenUp stays m new v due l out) (sym (listed ∙ ap (λ (i : ℕ). due ++ edges_inserted new i) is))
+        (subst (λ (k : Mesh Point DE UE F). IsGivenUp stays m k v due (due ++ edges_inserted k (face_count m.shape)) out) (sym fills.is)
         (given_up stays m mesh due sound v thin border filled fills.directed_data fills.undirected_data fills.face_data done _ out has
         (three_listed stays m mesh due sound v thin border filled fills.directed_data fills.undirected_data fills.face_data done (three not)) (spokes default)))
 
     pub filled_four : {A : Type 0} → DefaultIsLoose is_edge stays → (list : List ℕ) (out : IsolateVertexResult A) (f g : ℕ) → HasFilled m.shape border (edges_at m v) (faces_at m v) out → length border ≡ 4
-        → f ≡ face_count m.shape → g ≡ face_count m.shape + 1 → list ≡ (due ++ edges_inserted new f) ++ edges_inserted new g → IsGivenUp stays m new v list out
+        → f ≡ face_count m.shape → g ≡ face_count m.shape + 1 → list ≡ (due ++ edges_inserted new f) ++ edges_inserted new g → IsGivenUp stays m new v due list out
     filled_four default list out f g has four is is_next listed =
         let near = edges_inserted new f in
         let far = edges_inserted new g in
         let same : (due ++ near) ++ far ≡ due ++ (near ++ far) = simp append_assoc in
-        subst (λ (l : List ℕ). IsGivenUp stays m new v l out)
+        subst (λ (l : List ℕ). IsGivenUp stays m new v due l out)
         (sym (listed ∙ same ∙ ap (λ (i : ℕ). due ++ (edges_inserted new i ++ edges_inserted new g)) is ∙ ap (λ (i : ℕ). due ++ (edges_inserted new (face_count m.shape) ++ edges_inserted new i)) is_next))
-        (subst (λ (k : Mesh Point DE UE F). IsGivenUp stays m k v (due ++ (edges_inserted k (face_count m.shape) ++ edges_inserted k (face_count m.shape + 1))) out) (sym fills.is)
+        (subst (λ (k : Mesh Point DE UE F). IsGivenUp stays m k v due (due ++ (edges_inserted k (face_count m.shape) ++ edges_inserted k (face_count m.shape + 1))) out) (sym fills.is)
         (given_up stays m mesh due sound v thin border filled fills.directed_data fills.undirected_data fills.face_data done _ out has
         (four_listed stays m mesh due sound v thin border filled fills.directed_data fills.undirected_data fills.face_data done four) (spokes default)))

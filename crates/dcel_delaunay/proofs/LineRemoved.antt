@@ -1,5 +1,5 @@
 -- A vertex of a line removed: the others stand on it still.
-use Rattle.std.proofs.Common.{◌≡◌, ◌≢◌, ap, inl, inr, unwrap_or, ℕ, ◌+◌, ◌-◌, ◌/◌, ◌<◌, ◌≤◌, ◌==◌, Bool, true, cond, [], Option, Some, None, slice_index_or, eq-eqb, refl, sym, ◌∙◌, subst, arith}
+use Rattle.std.proofs.Common.{◌≡◌, ◌≢◌, ap, inl, inr, unwrap_or, ℕ, ◌+◌, ◌-◌, ◌/◌, ◌<◌, ◌≤◌, ◌==◌, Bool, true, cond, Option, Some, None, slice_index_or, eq-eqb, refl, sym, ◌∙◌, subst, arith}
 use Rattle.std.proofs.lemmas.Bool.{cases_eq, false≢true, ne_eqb}
 use Rattle.std.proofs.lemmas.List.{get_or-set_other, length-map, length-set}
 use Rattle.std.proofs.lemmas.Option.{slice_get_read}
@@ -26,20 +26,20 @@ use Rattle.dcel_plane.specs.Plane.{origin_point, point_at}
 use Rattle.dcel_plane.proofs.covering.Triangles.{ends_before}
 use Rattle.dcel_plane.proofs.removal.LinePaths.{line_few}
 use Rattle.dcel_plane.proofs.removal.PathShortened.{degenerate_straight}
-use Rattle.dcel_planar.specs.Growing.{IsFlat, IsJoined, IsDelaunayBut}
+use Rattle.dcel_planar.specs.Growing.{IsFlat, IsJoined, IsTriangleMesh}
 use Rattle.dcel_planar.specs.Legalization.{HasToStay}
 use Rattle.dcel_delaunay.specs.Removing.{Loses}
-use Rattle.dcel_delaunay.specs.Staying.{HasLooseEdges, KeepsOthersStaying, LosesNoneStaying, StaysBetween}
+use Rattle.dcel_delaunay.specs.Staying.{HasConstraintAt, KeepsOthersStaying, LosesNoneStaying, StaysBetween}
 use Rattle.dcel_delaunay.specs.declared.removed.Removed.{Removed}
 use Rattle.dcel_planar.proofs.Counting.{joined_all}
-use Rattle.dcel_planar.proofs.Whole.{way_flat}
+use Rattle.dcel_planar.proofs.Whole.{flat_triangulated}
 use Rattle.dcel_delaunay.proofs.Staying.{leaves_staying, left_staying}
 
 -- Euler's formula, with a vertex and an edge less
 one_less : (v e vn en : ℕ) → v + 1 ≡ e + 2 → 1 < v → vn ≡ v - 1 → en ≡ e - 1 → vn + 1 ≡ en + 2
 one_less v e vn en euler some vertices edges = omega (arith, euler, some, vertices, edges)
 
-module _ {DE UE F : Type 0} (m : Mesh Point DE UE F) (mesh : IsMesh m) (sound : IsDelaunayBut m []) (flat : IsFlat m) (v : ℕ) (below : v < m.shape.vertices) where
+module _ {DE UE F : Type 0} (m : Mesh Point DE UE F) (mesh : IsMesh m) (sound : IsTriangleMesh m) (flat : IsFlat m) (v : ℕ) (below : v < m.shape.vertices) where
   abbrev n : Mesh Point DE UE F
   n = removed_degenerate m v
 
@@ -111,8 +111,8 @@ module _ {DE UE F : Type 0} (m : Mesh Point DE UE F) (mesh : IsMesh m) (sound : 
       straight = degenerate_straight m mesh v line_can_lose (point_at m) (point_at n) after stands flat.straight;
     }
 
-    line_sound : IsDelaunayBut (removed_degenerate m v) []
-    line_sound = (way_flat n [] closed_after line_flat joined_after).sound
+    line_sound : IsTriangleMesh (removed_degenerate m v)
+    line_sound = flat_triangulated n closed_after line_flat joined_after
 
     line_loses : (r : Removed) → r.point ≡ slice_index_or m.vertex_data v r.point → r.moved ≡ cond (v == m.shape.vertices - 1) None (Some (m.shape.vertices - 1))
         → Loses m (removed_degenerate m v) v r
@@ -124,7 +124,7 @@ module _ {DE UE F : Type 0} (m : Mesh Point DE UE F) (mesh : IsMesh m) (sound : 
       others = stands;
     }
 
-    module _ (stays : UE → Bool) (loose : HasLooseEdges stays m v) where
+    module _ (stays : UE → Bool) (loose : ¬ HasConstraintAt stays m v) where
       -- with one vertex there is no edge
       none_alone : m.shape.vertices ≡ 1 → (k : Mesh Point DE UE F) → k.shape.edges ≤ m.shape.edges → (a b : ℕ) → ¬ StaysBetween stays k a b
       none_alone one k few a b given =
@@ -199,7 +199,7 @@ module _ {DE UE F : Type 0} (m : Mesh Point DE UE F) (mesh : IsMesh m) (sound : 
               let live = closed-live m.shape sound.closed (h / 2) parts.0 in
               let at : (k : ℕ) → IsOutEdge m.shape v k → h / 2 ≢ k / 2 =
               λ k out same.
-              (let stay = subst (λ (i : ℕ). HasToStay stays m i) same is.2 in loose k out stay) in
+              (let stay = subst (λ (i : ℕ). HasToStay stays m i) same is.2 in loose (k, out, stay)) in
               let not_gone = at (going m v) gone in
               let not_anchor = at (out_edge_of m v) anchor in (
                 h,
@@ -255,11 +255,11 @@ module _ {DE UE F : Type 0} (m : Mesh Point DE UE F) (mesh : IsMesh m) (sound : 
     pub lost_flat : IsFlat new
     lost_flat = subst (λ (k : Mesh Point DE UE F). IsFlat k) (sym is) (line_flat done)
 
-    pub lost_staying : (stays : UE → Bool) → HasLooseEdges stays m v → LosesNoneStaying stays m new v
+    pub lost_staying : (stays : UE → Bool) → ¬ HasConstraintAt stays m v → LosesNoneStaying stays m new v
     lost_staying stays loose = subst (λ (k : Mesh Point DE UE F). LosesNoneStaying stays m k v) (sym is) (line_staying done stays loose)
 
-    pub lost_sound : IsDelaunayBut new []
-    lost_sound = subst (λ (k : Mesh Point DE UE F). IsDelaunayBut k []) (sym is) (line_sound done)
+    pub lost_sound : IsTriangleMesh new
+    lost_sound = subst (λ (k : Mesh Point DE UE F). IsTriangleMesh k) (sym is) (line_sound done)
 
     pub lost_vertex : (r : Removed) → r.point ≡ slice_index_or m.vertex_data v r.point → r.moved ≡ cond (v == m.shape.vertices - 1) None (Some (m.shape.vertices - 1)) → Loses m new v r
     lost_vertex r point renamed = subst (λ (k : Mesh Point DE UE F). Loses m k v r) (sym is) (line_loses done r point renamed)

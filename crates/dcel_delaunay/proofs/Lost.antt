@@ -14,8 +14,13 @@ use Rattle.dcel_plane.specs.Plane.{origin_point, point_at}
 use Rattle.dcel_plane.proofs.covering.Starts.{inner_half}
 use Rattle.dcel_planar.specs.Corners.{StartsOutside}
 use Rattle.dcel_planar.specs.Growing.{HasHull, IsTriangleMesh}
-use Rattle.dcel_delaunay.specs.Removing.{HasNoneToTurn, IsInnerVertex, IsThinnedOut, Loses}
+use Rattle.dcel_planar.specs.Leaving.{IsSame}
+use Rattle.dcel_planar.specs.Outcomes.{IsWholeMesh, KeepsWhole}
+use Rattle.dcel_planar.specs.declared.planar.PlanarMesh.{PlanarMesh}
+use Rattle.dcel_delaunay.specs.Removing.{FailsToRemove, FailsToTakeOut, HasNoneToTurn, IsInnerVertex, IsThinnedOut, Loses}
 use Rattle.dcel_delaunay.specs.Staying.{KeepsStaying, LosesNoneStaying, StaysBetween}
+use Rattle.dcel_delaunay.specs.declared.errors.RemovalError.{RemovalError}
+use Rattle.dcel_delaunay.specs.declared.errors.RemovalError.TheVariants.{NoVertex, OutOfMemory, TooManyPoints, Unfinished}
 use Rattle.dcel_delaunay.specs.declared.removed.Removed.{Removed}
 use Rattle.dcel_planar.proofs.Counting.{joined_all}
 
@@ -95,3 +100,25 @@ module _ {DE UE F : Type 0} where
   lost_staying stays m mid n v vertices keeps loses =
       subst (λ (k : ℕ). (a b : ℕ) → a ≢ v → b ≢ v → StaysBetween stays m a b ↔ StaysBetween stays n (moved (k - 1) v a) (moved (k - 1) v b)) vertices
       (λ a b not_a not_b. (λ was. (loses a b not_a not_b).0 ((keeps a b).0 was), λ is. (keeps a b).1 ((loses a b not_a not_b).1 is)))
+
+-- a vertex of a mesh that was finished first isn't taken out
+module _ {UE A : Type 0} (old mid new : PlanarMesh UE A) (v : ℕ) (points : mid.dcel.vertex_data ≡ old.dcel.vertex_data) (same : IsWholeMesh old → mid.dcel ≡ old.dcel)
+    (whole : IsWholeMesh mid) (below : v < mid.dcel.shape.vertices) where
+  kept : IsSame mid new → KeepsWhole old new
+  kept stays = record {
+    points = ap (λ (m : Mesh Point (Unit {0}) UE (Unit {0})). m.vertex_data) stays.mesh ∙ points;
+    same = λ is. stays.mesh ∙ same is;
+  }
+
+  -- told of the mesh that is left
+  left_so : IsSame mid new → IsInnerVertex mid.dcel.shape v → ¬ HasRoom mid.dcel.shape 0 1 2
+      → (v < new.dcel.shape.vertices) × IsInnerVertex new.dcel.shape v × ¬ HasRoom new.dcel.shape 0 1 2
+  left_so stays inner lacks =
+      subst (λ (m : Mesh Point (Unit {0}) UE (Unit {0})). (v < m.shape.vertices) × IsInnerVertex m.shape v × ¬ HasRoom m.shape 0 1 2) (sym stays.mesh) (below, inner, lacks)
+
+  pub removal_fails : (e : RemovalError) → FailsToTakeOut mid new v e → FailsToRemove old new v e
+  removal_fails NoVertex fails = absurd fails
+  removal_fails TooManyPoints fails =
+      let left = left_so fails.2 fails.0 fails.1 in (left.0, left.1, left.2, kept fails.2, fails.2.due ∙ whole)
+  removal_fails OutOfMemory fails = fails.points ∙ points
+  removal_fails (Unfinished removed) fails = absurd fails

@@ -13,8 +13,8 @@ use Rattle.dcel_maps.specs.edits.Flip.{edge_flipped}
 use Rattle.dcel_maps.specs.Removals.{Closed, gives_up_edge}
 use Rattle.dcel_maps.specs.Renumbered.{LeavesLive, new_edge, new_half}
 use Rattle.dcel_maps.specs.Renumbering.{cleaned_up, half_of}
-use Rattle.dcel_maps.specs.Shapes.{IsLive, IsMesh, Mesh, edge_is_live, end_of, map_of, origin_of, vertex_is_live}
-use Rattle.dcel_maps.specs.Walking.{IsOutEdge, Leads}
+use Rattle.dcel_maps.specs.Shapes.{IsLive, IsMesh, Mesh, edge_is_live, map_of, origin_of, vertex_is_live}
+use Rattle.dcel_maps.specs.Walking.{Leads}
 use Rattle.dcel_maps.specs.Words.{count_of}
 use Rattle.dcel_maps.proofs.Liveness.{closed-live, even_live, is_live-from, is_live-parts}
 use Rattle.dcel_maps.proofs.maps.Halves.{rev_or_same}
@@ -22,15 +22,14 @@ use Rattle.dcel_maps.proofs.maps.Soundness.{rev_live}
 use Rattle.dcel_maps.proofs.renumbering.Renumbered.{leaves_live}
 use Rattle.dcel_maps.proofs.words.Counts.{count-append, count-equal, count-later, first_or_later}
 use Rattle.dcel_maps.proofs.words.EachSet.{other-two_set}
-use Rattle.dcel_maps.proofs.words.Mapped.{count-mapped, mapped_from}
+use Rattle.dcel_maps.proofs.words.Mapped.{mapped_from}
 use Rattle.dcel_predicates.specs.declared.point.Point.{Point}
 use Rattle.dcel_legalize.specs.Flipping.{sides_beside}
 use Rattle.dcel_plane.specs.Plane.{ListsCircled, point_at}
 use Rattle.dcel_plane.proofs.edits.Flipped.{flip_lists}
-use Rattle.dcel_plane.proofs.removal.Renumbering.{cleanup_lists}
 use Rattle.dcel_planar.specs.Legalization.{HasToStay, ListsLoose}
-use Rattle.dcel_planar.proofs.Staying.{listed_stays, staying, stays_listed, to_circled}
-use Rattle.dcel_delaunay.specs.Staying.{HasLooseEdges, KeepsOthersStaying, KeepsStaying, StaysBetween}
+use Rattle.dcel_planar.proofs.Staying.{listed_stays, staying, to_circled}
+use Rattle.dcel_delaunay.specs.Staying.{HasConstraintAt, KeepsOthersStaying, KeepsStaying, LeavesLegal, StaysBetween}
 
 -- items that pass a test
 kept_in : (p : ℕ → Bool) (k : ℕ) (xs : List ℕ) → p k ≡ true → 0 < count_of k xs → 0 < count_of k (filter p xs)
@@ -84,6 +83,13 @@ module _ {DE UE F : Type 0} (stays : UE → Bool) where
   stay_by : (m : Mesh Point DE UE F) (u : ℕ) (x : UE) → slice_get m.undirected_data u ≡ Some x → stays x ≡ true → HasToStay stays m u
   stay_by m u x is does = ap (option_map stays) is ∙ ap Some does
 
+  -- an edge stays if its datum says so
+  pub told_stay : (m : Mesh Point DE UE F) (u : ℕ) (x : UE) (b : Bool) → slice_get m.undirected_data u ≡ Some x → b ≡ stays x → (b ≡ true) ↔ HasToStay stays m u
+  told_stay m u x b is told = (
+    λ yes. stay_by m u x is (sym told ∙ yes),
+    λ stay. (let some : Some (stays x) ≡ Some true = sym (ap (option_map stays) is) ∙ stay in let same : stays x ≡ true = cc in told ∙ same),
+  )
+
   -- an edge that stays has a number
   pub stay_below : (m : Mesh Point DE UE F) → IsMesh m → (u : ℕ) → m.shape.edges ≤ u → ¬ HasToStay stays m u
   stay_below m mesh u past stay =
@@ -120,8 +126,8 @@ module _ {DE UE F : Type 0} (stays : UE → Bool) where
           (given.0, record { live = given.1.live; start = sym (start_stays given.0 other) ∙ given.1.start; end = sym (end_stays given.0 other) ∙ given.1.end }, given.2)),
     )
 
-    pub flip_loose : (v : ℕ) → HasLooseEdges stays m v → HasLooseEdges stays (edge_flipped m u) v
-    flip_loose v none h out stay = none h (record { live = out.live; start = sym (start_stays h (off h stay)) ∙ out.start }) stay
+    pub flip_loose : (v : ℕ) → ¬ HasConstraintAt stays m v → ¬ HasConstraintAt stays (edge_flipped m u) v
+    flip_loose v none at = none (at.0, record { live = at.1.live; start = sym (start_stays at.0 (off at.0 at.2)) ∙ at.1.start }, at.2)
 
   -- a flip whose edge is listed, with the sides beside it
   pub flip_listed : (m : Mesh Point DE UE F) → IsMesh m → (u : ℕ) → CanFlip m.shape u → (due : List ℕ) → ListsLoose stays m due
@@ -141,6 +147,9 @@ module _ {DE UE F : Type 0} (stays : UE → Bool) where
         | inl there ↦ absurd (is.loose (listed_stays stays m w there))
         | inr none ↦ omega (arith, found, whole, both, parts, wanted, first, none)
       ]
+
+  pub legal_trans : (l m n : Mesh Point DE UE F) (first due items : List ℕ) → LeavesLegal stays l m first due → LeavesLegal stays m n due items → LeavesLegal stays l n first items
+  legal_trans l m n first due items was then = record { triangulated = then.triangulated; listed = λ lists. then.listed (was.listed lists) }
 
   pub keeps_trans : (l m n : Mesh Point DE UE F) → KeepsStaying stays l m → KeepsStaying stays m n → KeepsStaying stays l n
   keeps_trans l m n first then a b = (λ given. (then a b).0 ((first a b).0 given), λ given. (first a b).1 ((then a b).1 given))

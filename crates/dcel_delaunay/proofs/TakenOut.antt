@@ -22,7 +22,7 @@ use Rattle.dcel_plane.proofs.removal.Renumbering.{cleanup_keeps, cleanup_lists, 
 use Rattle.dcel_planar.specs.Growing.{HasHull, IsFlat, IsJoined}
 use Rattle.dcel_planar.specs.Legalization.{ListsLoose}
 use Rattle.dcel_delaunay.specs.Removing.{IsGivenUp, Loses}
-use Rattle.dcel_delaunay.specs.Staying.{IsLegalBut, LosesNoneStaying, StaysBetween}
+use Rattle.dcel_delaunay.specs.Staying.{LeavesLegal, LosesNoneStaying, StaysBetween}
 use Rattle.dcel_delaunay.specs.declared.removed.Removed.{Removed}
 use Rattle.dcel_delaunay.proofs.Emptied.{at_points}
 use Rattle.dcel_delaunay.proofs.Staying.{leaves_staying, left_staying, lists_live, live_staying, of_circled, renumbered_stays}
@@ -31,7 +31,7 @@ use Rattle.dcel_delaunay.proofs.Staying.{leaves_staying, left_staying, lists_liv
 euler_after : (v f e k j vn fn en : ℕ) → v + f + k ≡ e + j + 3 → 0 < v → k ≤ e → j ≤ f → vn ≡ v - 1 → fn ≡ f - j → en ≡ e - k → vn + fn ≡ en + 2
 euler_after v f e k j vn fn en euler some few_edges few_faces vertices faces edges = omega (arith, euler, some, few_edges, few_faces, vertices, faces, edges)
 
-module _ {DE UE F A : Type 0} (stays : UE → Bool) (old mid : Mesh Point DE UE F) (v : ℕ) (due : List ℕ) (out : IsolateVertexResult A) (given : IsGivenUp stays old mid v due out) (below : v < old.shape.vertices)
+module _ {DE UE F A : Type 0} (stays : UE → Bool) (old mid : Mesh Point DE UE F) (v : ℕ) (before due : List ℕ) (out : IsolateVertexResult A) (given : IsGivenUp stays old mid v before due out) (below : v < old.shape.vertices)
     (many : 1 < old.shape.vertices) (clean : IsMesh (cleaned_up mid)) (done : IsMesh (vertex_taken_out (cleaned_up mid) v)) where
   abbrev c : Mesh Point DE UE F
   c = cleaned_up mid
@@ -84,15 +84,15 @@ module _ {DE UE F A : Type 0} (stays : UE → Bool) (old mid : Mesh Point DE UE 
     empty = λ none. absurd (let is_vertices = vertices_are in omega (arith, none, is_vertices, many));
   }
 
-  removed_listed : ListsLoose stays (vertex_taken_out (cleaned_up mid) v) (map (new_edge mid.shape) due)
-  removed_listed =
+  removed_listed : ListsLoose stays old before → ListsLoose stays (vertex_taken_out (cleaned_up mid) v) (map (new_edge mid.shape) due)
+  removed_listed lists =
       let ne = new_edge mid.shape in
       let both = due ++ live_staying stays mid in
       of_circled stays n (map ne due) (map ne (live_staying stays mid)) (λ u there. renumbered_stays stays mid given.mesh clean u there)
       (subst (λ (l : List ℕ). ListsCircled (point_at n) n.shape l) (map-append ne due (live_staying stays mid))
       (taken_out_lists c clean (point_at c) (point_at n) v clean_record done stands (map ne both)
       (at_points (λ at. ListsCircled at c.shape (map ne both)) mid c left.points
-      (cleanup_lists mid given.mesh (point_at mid) clean both (lists_live stays mid due given.listed)))))
+      (cleanup_lists mid given.mesh (point_at mid) clean both (lists_live stays mid due (given.listed lists))))))
 
   -- edges that stay lead between the same vertices
   pub removed_staying : LosesNoneStaying stays old (vertex_taken_out (cleaned_up mid) v) v
@@ -116,7 +116,7 @@ module _ {DE UE F A : Type 0} (stays : UE → Bool) (old mid : Mesh Point DE UE 
             (λ w live same. one w b live not_b same) is)),
       )
 
-  pub removed_sound : IsLegalBut stays (vertex_taken_out (cleaned_up mid) v) (map (new_edge mid.shape) due)
+  pub removed_sound : LeavesLegal stays old (vertex_taken_out (cleaned_up mid) v) before (map (new_edge mid.shape) due)
   removed_sound = record {
     triangulated = record {
       closed = refl;
@@ -179,23 +179,23 @@ module _ {DE UE F A : Type 0} (stays : UE → Bool) (old mid : Mesh Point DE UE 
         ∙ ap (λ (points : List Point). slice_index_or points w origin_point) points_are;
   }
 
-module _ {DE UE F A : Type 0} (stays : UE → Bool) (old mid new : Mesh Point DE UE F) (v : ℕ) (due items : List ℕ) (out : IsolateVertexResult A) (given : IsGivenUp stays old mid v due out)
+module _ {DE UE F A : Type 0} (stays : UE → Bool) (old mid new : Mesh Point DE UE F) (v : ℕ) (before due items : List ℕ) (out : IsolateVertexResult A) (given : IsGivenUp stays old mid v before due out)
     (below : v < old.shape.vertices) (many : 1 < old.shape.vertices) (clean : IsMesh (cleaned_up mid)) (after : IsMesh new) (is : new ≡ vertex_taken_out (cleaned_up mid) v)
     (renamed : items ≡ map (new_edge mid.shape) due) where
   done : IsMesh (vertex_taken_out (cleaned_up mid) v)
   done = subst (λ (k : Mesh Point DE UE F). IsMesh k) is after
 
-  pub taken_sound : IsLegalBut stays new items
+  pub taken_sound : LeavesLegal stays old new before items
   taken_sound =
-      subst (λ (list : List ℕ). IsLegalBut stays new list) (sym renamed)
-      (subst (λ (k : Mesh Point DE UE F). IsLegalBut stays k (map (new_edge mid.shape) due)) (sym is) (removed_sound stays old mid v due out given below many clean done))
+      subst (λ (list : List ℕ). LeavesLegal stays old new before list) (sym renamed)
+      (subst (λ (k : Mesh Point DE UE F). LeavesLegal stays old k before (map (new_edge mid.shape) due)) (sym is) (removed_sound stays old mid v before due out given below many clean done))
 
   pub taken_staying : LosesNoneStaying stays old new v
-  taken_staying = subst (λ (k : Mesh Point DE UE F). LosesNoneStaying stays old k v) (sym is) (removed_staying stays old mid v due out given below many clean done)
+  taken_staying = subst (λ (k : Mesh Point DE UE F). LosesNoneStaying stays old k v) (sym is) (removed_staying stays old mid v before due out given below many clean done)
 
   pub taken_hull : IsFlat new ⊎ HasHull new
-  taken_hull = subst (λ (k : Mesh Point DE UE F). IsFlat k ⊎ HasHull k) (sym is) (removed_hull stays old mid v due out given below many clean done)
+  taken_hull = subst (λ (k : Mesh Point DE UE F). IsFlat k ⊎ HasHull k) (sym is) (removed_hull stays old mid v before due out given below many clean done)
 
   pub taken_loses : (r : Removed) → r.point ≡ slice_index_or (cleaned_up mid).vertex_data v r.point
       → r.moved ≡ cond (v == (cleaned_up mid).shape.vertices - 1) None (Some ((cleaned_up mid).shape.vertices - 1)) → Loses old new v r
-  taken_loses r point moves = subst (λ (k : Mesh Point DE UE F). Loses old k v r) (sym is) (removed_loses stays old mid v due out given below many clean done r point moves)
+  taken_loses r point moves = subst (λ (k : Mesh Point DE UE F). Loses old k v r) (sym is) (removed_loses stays old mid v before due out given below many clean done r point moves)

@@ -20,12 +20,12 @@ use Rattle.dcel_plane.proofs.removal.Fewer.{flip_keeps_inner, flip_takes_one}
 use Rattle.dcel_plane.proofs.removal.FlippedInside.{outer_start, outer_stays}
 use Rattle.dcel_plane.proofs.removal.Turnable.{turn_keeps_plane}
 use Rattle.dcel_planar.specs.Corners.{StartsOutside}
-use Rattle.dcel_planar.specs.Growing.{HasHull, Keeps}
+use Rattle.dcel_planar.specs.Growing.{HasHull, IsTriangleMesh, Keeps}
 use Rattle.dcel_delaunay.specs.Removing.{IsInnerVertex, IsTurnable}
-use Rattle.dcel_delaunay.specs.Staying.{HasLooseEdges, IsLegalBut, KeepsStaying}
+use Rattle.dcel_delaunay.specs.Staying.{HasConstraintAt, KeepsStaying, LeavesLegal}
 use Rattle.dcel_planar.proofs.Counting.{flipped_joined}
 use Rattle.dcel_planar.proofs.Growth.{flipped-keeps, keeps-trans}
-use Rattle.dcel_delaunay.proofs.Staying.{flip_listed, flip_loose, flip_staying, keeps_trans}
+use Rattle.dcel_delaunay.proofs.Staying.{flip_listed, flip_loose, flip_staying, keeps_trans, legal_trans}
 
 -- what can be flipped so lies between two inner triangles
 pub hull_stays : (at : ℕ → Point) (s : Shape) (u : ℕ) → IsOnHull s (2 * u) → ¬ CanFlipInPlane at s u
@@ -59,7 +59,7 @@ module _ {DE UE F : Type 0} where
     abbrev n : Mesh Point DE UE F
     n = edge_flipped m (e / 2)
 
-    half_sound : (stays : UE → Bool) (due : List ℕ) → IsLegalBut stays m due → IsLegalBut stays n ((due ++ (e / 2) ∷ []) ++ sides_beside m.shape (e / 2))
+    half_sound : (stays : UE → Bool) (due : List ℕ) → IsTriangleMesh m → LeavesLegal stays m n due ((due ++ (e / 2) ∷ []) ++ sides_beside m.shape (e / 2))
     half_sound stays due sound = record {
       triangulated = record {
         closed = sound.closed;
@@ -67,7 +67,7 @@ module _ {DE UE F : Type 0} where
         triangles = flipped m sound.triangles (e / 2);
         plane = turn_keeps_plane m mesh (point_at m) (e / 2) turn sound.plane;
       };
-      listed = flip_listed stays m mesh (e / 2) turn.can due sound.listed;
+      listed = flip_listed stays m mesh (e / 2) turn.can due;
     }
 
     half_hull : HasHull m → HasHull n
@@ -108,20 +108,20 @@ module _ {DE UE F : Type 0} (stays : UE → Bool) where
     pub below : v < n.shape.vertices
     pub keeps : Keeps m n
     pub edges : n.shape.edges ≡ m.shape.edges
-    pub sound : IsLegalBut stays n rest
+    pub sound : LeavesLegal stays m n due rest
     pub hull : HasHull n
     pub inside : IsInnerVertex m.shape v → IsInnerVertex n.shape v
     pub outside : (h : ℕ) → StartsOutside m v h → StartsOutside n v h
     pub staying : KeepsStaying stays m n
-    pub loose : HasLooseEdges stays n v
+    pub loose : ¬ HasConstraintAt stays n v
 
-  pub thin_begins : (m : Mesh Point DE UE F) (due : List ℕ) (v : ℕ) → IsMesh m → IsLegalBut stays m due → HasHull m → v < m.shape.vertices → HasLooseEdges stays m v → IsThinned m due v m due
+  pub thin_begins : (m : Mesh Point DE UE F) (due : List ℕ) (v : ℕ) → IsMesh m → IsTriangleMesh m → HasHull m → v < m.shape.vertices → ¬ HasConstraintAt stays m v → IsThinned m due v m due
   thin_begins m due v mesh sound has below loose = record {
     mesh = mesh;
     below = below;
     keeps = record { closed = sound.closed; vertices = refl; points = refl; edges = omega arith };
     edges = refl;
-    sound = sound;
+    sound = record { triangulated = sound; listed = λ lists. lists };
     hull = has;
     inside = λ is. is;
     outside = λ h is. is;
@@ -137,12 +137,12 @@ module _ {DE UE F : Type 0} (stays : UE → Bool) where
       below = way.below;
       keeps = keeps-trans m n (edge_flipped n (e / 2)) way.keeps (flipped-keeps n way.sound.closed (e / 2));
       edges = way.edges;
-      sound = half_sound n way.mesh e turn stays rest way.sound;
+      sound = legal_trans stays m n (edge_flipped n (e / 2)) due rest _ way.sound (half_sound n way.mesh e turn stays rest way.sound.triangulated);
       hull = half_hull n way.mesh e turn way.hull;
       inside = λ inside. half_inside n way.mesh e turn v (way.inside inside);
       outside = λ h is. half_outside n way.mesh e turn v h (way.outside h is);
-      staying = keeps_trans stays m n (edge_flipped n (e / 2)) way.staying (flip_staying stays n (e / 2) (way.loose e out));
-      loose = flip_loose stays n (e / 2) (way.loose e out) v way.loose;
+      staying = keeps_trans stays m n (edge_flipped n (e / 2)) way.staying (flip_staying stays n (e / 2) (λ stay. way.loose (e, out, stay)));
+      loose = flip_loose stays n (e / 2) (λ stay. way.loose (e, out, stay)) v way.loose;
     }
 
     module _ (u : ℕ) (turn : IsTurnable n v u) where

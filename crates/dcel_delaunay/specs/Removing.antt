@@ -18,6 +18,7 @@ use Rattle.spade_dcel.specs.Opened.{HasOpened}
 use Rattle.dcel_plane.specs.removal.Wheels.{CanFlipInPlane, MakesTwo}
 use Rattle.dcel_planar.specs.Corners.{StartsOutside}
 use Rattle.dcel_planar.specs.Growing.{HasHull, Keeps}
+use Rattle.dcel_planar.specs.Leaving.{IsSame}
 use Rattle.dcel_planar.specs.Legalization.{ListsLoose}
 use Rattle.dcel_planar.specs.Outcomes.{IsWholeMesh, KeepsWhole}
 use Rattle.dcel_planar.specs.Places.{HasPoint, IsOnLine}
@@ -98,17 +99,10 @@ module _ {DE UE F : Type 0} where
     pub renamed : removed.moved ≡ cond (v == old.shape.vertices - 1) None (Some (old.shape.vertices - 1))
     pub others : (w : ℕ) → w < old.shape.vertices → w ≢ v → point_at new (moved (old.shape.vertices - 1) v w) ≡ point_at old w
 
-  -- a vertex of triangles isn't removed
-  abbrev pub FailsToCutOut : Mesh Point DE UE F → Mesh Point DE UE F → List ℕ → List ℕ → ℕ → RemovalError → Type 0
-  FailsToCutOut old new due items v NoVertex = ⊥
-  FailsToCutOut old new due items v TooManyPoints = (v < old.shape.vertices) × IsInnerVertex old.shape v × ¬ HasRoom old.shape 0 1 2 × (new ≡ old) × (items ≡ due)
-  FailsToCutOut old new due items v OutOfMemory = Keeps old new
-  FailsToCutOut old new due items v (Unfinished removed) = ⊥
-
 module _ {DE UE F : Type 0} (stays : UE → Bool) where
   -- v is given up, with edges and faces of the numbers that Euler's formula wants, and what is left lies in the plane with its hull, or on a
   -- line; edges that have to stay are left
-  pub record IsGivenUp {A : Type 0} (old new : Mesh Point DE UE F) (v : ℕ) (due : List ℕ) (opened : IsolateVertexResult A) : Type 0 where
+  pub record IsGivenUp {A : Type 0} (old new : Mesh Point DE UE F) (v : ℕ) (before after : List ℕ) (opened : IsolateVertexResult A) : Type 0 where
     pub mesh : IsMesh new
     pub vertices : new.shape.vertices ≡ old.shape.vertices
     pub points : new.vertex_data ≡ old.vertex_data
@@ -119,11 +113,18 @@ module _ {DE UE F : Type 0} (stays : UE → Bool) where
     pub euler : old.shape.vertices + face_count new.shape + length edges ≡ new.shape.edges + length faces + 3
     pub triangles : AllTriangles new.shape
     pub plane : TrianglesTurnLeft (point_at new) new.shape
-    pub listed : ListsLoose stays new due
+    pub listed : ListsLoose stays old before → ListsLoose stays new after
     pub left : HasOutline new ⊎ IsStrung new
     pub staying : KeepsOthersStaying stays old new v
 
 module _ {UE A : Type 0} where
+  -- the vertex v isn't taken out
+  abbrev pub FailsToTakeOut : PlanarMesh UE A → PlanarMesh UE A → ℕ → RemovalError → Type 0
+  FailsToTakeOut old new v NoVertex = ⊥
+  FailsToTakeOut old new v TooManyPoints = IsInnerVertex old.dcel.shape v × ¬ HasRoom old.dcel.shape 0 1 2 × IsSame old new
+  FailsToTakeOut old new v OutOfMemory = Keeps old.dcel new.dcel
+  FailsToTakeOut old new v (Unfinished removed) = ⊥
+
   -- a removal of the vertex v fails
   abbrev pub FailsToRemove : PlanarMesh UE A → PlanarMesh UE A → ℕ → RemovalError → Type 0
   FailsToRemove old new v NoVertex = ¬ (v < new.dcel.shape.vertices) × KeepsWhole old new × IsWholeMesh new

@@ -17,7 +17,7 @@ ghost use Rattle.dcel_delaunay.specs.Triangulated.{CirclesAreEmpty, FacesAreApar
 
 use crate::errors::RemovalError;
 use crate::locate::nearest;
-use crate::remove::{remove_from_line, remove_from_triangles};
+use crate::remove::remove_vertex;
 use crate::removed::Removed;
 use crate::triangulation::Triangulation;
 use dcel_planar::{InsertionError, Mesh, PlanarMesh, Point, PositionInTriangulation};
@@ -263,10 +263,7 @@ impl<A: Allocator + Clone> Triangulation<A> {
         if vertex.index() >= self.planar.dcel.num_vertices() {
             return Err(RemovalError::NoVertex);
         }
-        if self.planar.dcel.num_faces() == 1 {
-            return Ok(remove_from_line(&mut self.planar.dcel, vertex));
-        }
-        match remove_from_triangles(&mut self.planar.dcel, &mut self.planar.due, vertex) {
+        match remove_vertex(&mut self.planar, vertex) {
             Ok(removed) => self.settle(removed),
             Err(error) => Err(error),
         }

@@ -11,6 +11,7 @@
 
 mod api;
 mod errors;
+mod free;
 mod insert;
 pub mod lists;
 mod locate;
@@ -21,8 +22,9 @@ mod triangulation;
 
 pub use dcel_planar::{EdgeMesh, InsertionError, Mesh, Point, PositionInTriangulation};
 pub use errors::{RemovalError, point};
+pub use free::FreeByDefault;
 pub use insert::insertion_order;
-pub use remove::{Due, remove_from_line, remove_from_triangles};
+pub use remove::{has_constraint_at, remove_vertex};
 pub use removed::Removed;
 pub use triangles::{Triangle, least_numbers, triangulate, triangulate_with};
 pub use triangulation::Triangulation;

@@ -24,7 +24,7 @@ SHOWN = {
     "dcel_example_delaunay::outline::add_side": ["ConstrainedTriangulation::add_constraint"],
     "dcel_tests_delaunay::positions::kind_at": ["Triangulation::locate"],
     "dcel_tests_parts::convenience::check_around": ["degree", "dcel_convenience::neighbors"],
-    "dcel_tests_parts::convenience::check_removed": ["remove_vertex"],
+    "dcel_tests_parts::convenience::check_removed": ["dcel_convenience::remove_vertex"],
     "dcel_tests_parts::faces::made_of": ["from_faces"],
 }
 

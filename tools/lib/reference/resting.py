@@ -12,6 +12,14 @@ from reference.terms import Field, Inside, Unknown, words_of
 GIVEN = set("Ok Err Some None bool char str u8 u16 u32 u64 u128 usize i8 i16 i32 i64 i128 isize f32 f64".split())
 
 
+def bounding(said, home):
+    """What bounds name, and after a trait those that it extends."""
+    for it in (home.find(tuple(path.split("::"))) for path in TYPE.findall(said)):
+        yield it
+        if isinstance(it, Item) and it.kind == "trait":
+            yield from bounding(re.sub(r"<.*>", "", it.text.split("{")[0]).partition(":")[2], it.home)
+
+
 class Parameter(NamedTuple):
     """A type parameter, whose bounds tell its members."""
 
@@ -19,7 +27,7 @@ class Parameter(NamedTuple):
     home: object
 
     def member(self, name):
-        bounds = [self.home.find(tuple(it.split("::"))) for it in TYPE.findall(self.bounds)]
+        bounds = list(bounding(self.bounds, self.home))
         return next((it.member(name) for it in bounds if isinstance(it, Item) and it.member(name)), None) or next(
             (Kit(name, "std") for it in bounds if isinstance(it, Kit)), None
         )

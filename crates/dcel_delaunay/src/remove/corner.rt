@@ -7,9 +7,9 @@ ghost use Rattle.dcel_maps.specs.Removals.{Closed};
 ghost use Rattle.dcel_maps.specs.Shapes.{IsLive};
 ghost use Rattle.dcel_maps.specs.Strips.{IsStripAround, strip_of};
 ghost use Rattle.spade_dcel.specs.Handles.{mesh_behind, number_of};
-ghost use Rattle.dcel_planar.specs.Growing.{HasHull, Keeps};
+ghost use Rattle.dcel_planar.specs.Growing.{HasHull, IsTriangleMesh, Keeps};
 ghost use Rattle.dcel_delaunay.specs.Removing.{IsHullCorner, CutsOff, IsGivenUp, LiesFlat};
-ghost use Rattle.dcel_delaunay.specs.Staying.{HasLooseEdges, IsLegalBut, KeepsStaying};
+ghost use Rattle.dcel_delaunay.specs.Staying.{HasConstraintAt, KeepsStaying, LeavesLegal};
 
 use crate::remove::Due;
 use dcel_legalize::{EdgeConstraint, append_sides};
@@ -30,13 +30,13 @@ pub(crate) fn cut_off<UE: EdgeConstraint, A: Allocator + Clone, L: Allocator>(
     outside: FixedDirectedEdgeHandle,
     vertex: FixedVertexHandle,
 ) -> Result<IsolateVertexResult<A>, AllocError>
-    requires sound { IsLegalBut UE.is_constraint dcel.old due.old.items }
+    requires sound { IsTriangleMesh dcel.old }
     requires corner { IsHullCorner dcel.old vertex outside }
-    requires loose { HasLooseEdges UE.is_constraint dcel.old vertex }
-    ensures given_up { IfOk result (λ opened. IsGivenUp UE.is_constraint dcel.old dcel.new vertex due.new.items opened) }
+    requires loose { ¬ HasConstraintAt UE.is_constraint dcel.old vertex }
+    ensures given_up { IfOk result (λ opened. IsGivenUp UE.is_constraint dcel.old dcel.new vertex due.old.items due.new.items opened) }
     ensures keeps { OnErr result (Keeps dcel.old dcel.new) }
     ensures staying { OnErr result (KeepsStaying UE.is_constraint dcel.old dcel.new) }
-    ensures sound { OnErr result (IsLegalBut UE.is_constraint dcel.new due.new.items) }
+    ensures sound { OnErr result (LeavesLegal UE.is_constraint dcel.old dcel.new due.old.items due.new.items) }
     ensures hull { OnErr result (HasHull dcel.new) }
 {
     every_mesh(dcel);
@@ -54,14 +54,14 @@ fn cut_off_flat<UE: EdgeConstraint, A: Allocator + Clone, L: Allocator>(
     outside: FixedDirectedEdgeHandle,
     vertex: FixedVertexHandle,
 ) -> Result<IsolateVertexResult<A>, AllocError>
-    requires sound { IsLegalBut UE.is_constraint dcel.old due.old.items }
+    requires sound { IsTriangleMesh dcel.old }
     requires corner { IsHullCorner dcel.old vertex outside }
-    requires loose { HasLooseEdges UE.is_constraint dcel.old vertex }
+    requires loose { ¬ HasConstraintAt UE.is_constraint dcel.old vertex }
     requires flat { LiesFlat dcel.old outside }
-    ensures given_up { IfOk result (λ opened. IsGivenUp UE.is_constraint dcel.old dcel.new vertex due.new.items opened) }
+    ensures given_up { IfOk result (λ opened. IsGivenUp UE.is_constraint dcel.old dcel.new vertex due.old.items due.new.items opened) }
     ensures keeps { OnErr result (Keeps dcel.old dcel.new) }
     ensures staying { OnErr result (KeepsStaying UE.is_constraint dcel.old dcel.new) }
-    ensures sound { OnErr result (IsLegalBut UE.is_constraint dcel.new due.new.items) }
+    ensures sound { OnErr result (LeavesLegal UE.is_constraint dcel.old dcel.new due.old.items due.new.items) }
     ensures hull { OnErr result (HasHull dcel.new) }
 {
     every_mesh(dcel);

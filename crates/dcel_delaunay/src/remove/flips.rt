@@ -5,9 +5,9 @@ ghost use Rattle.dcel_maps.specs.Shapes.{IsMesh};
 ghost use Rattle.dcel_plane.specs.Plane.{TurnsLeft, point_at};
 ghost use Rattle.dcel_plane.specs.removal.Wheels.{CanFlipInPlane};
 ghost use Rattle.dcel_planar.specs.Corners.{StartsOutside};
-ghost use Rattle.dcel_planar.specs.Growing.{HasHull, Keeps};
+ghost use Rattle.dcel_planar.specs.Growing.{HasHull, IsTriangleMesh, Keeps};
 ghost use Rattle.dcel_delaunay.specs.Removing.{HasNoneToTurn, IsInnerVertex, IsTurnable};
-ghost use Rattle.dcel_delaunay.specs.Staying.{HasLooseEdges, IsLegalBut, KeepsStaying};
+ghost use Rattle.dcel_delaunay.specs.Staying.{HasConstraintAt, KeepsStaying, LeavesLegal};
 
 use crate::remove::Due;
 use dcel_legalize::{EdgeConstraint, append_sides};
@@ -27,18 +27,18 @@ pub(crate) fn thin_out<UE: EdgeConstraint, A: Allocator, L: Allocator>(
     due: &mut Due<L>,
     vertex: FixedVertexHandle,
 ) -> Result<(), AllocError>
-    requires sound { IsLegalBut UE.is_constraint dcel.old due.old.items }
+    requires sound { IsTriangleMesh dcel.old }
     requires hull { HasHull dcel.old }
     requires vertex { vertex < dcel.old.shape.vertices }
-    requires loose { HasLooseEdges UE.is_constraint dcel.old vertex }
+    requires loose { ¬ HasConstraintAt UE.is_constraint dcel.old vertex }
     ensures keeps { Keeps dcel.old dcel.new }
     ensures same_edges { dcel.new.shape.edges ≡ dcel.old.shape.edges }
-    ensures sound { IsLegalBut UE.is_constraint dcel.new due.new.items }
+    ensures sound { LeavesLegal UE.is_constraint dcel.old dcel.new due.old.items due.new.items }
     ensures hull { HasHull dcel.new }
     ensures inside { IsInnerVertex dcel.old.shape vertex → IsInnerVertex dcel.new.shape vertex }
     ensures outside { (h : ℕ) → StartsOutside dcel.old vertex h → StartsOutside dcel.new vertex h }
     ensures staying { KeepsStaying UE.is_constraint dcel.old dcel.new }
-    ensures loose { HasLooseEdges UE.is_constraint dcel.new vertex }
+    ensures loose { ¬ HasConstraintAt UE.is_constraint dcel.new vertex }
     ensures done { OnOk result (HasNoneToTurn dcel.new vertex) }
     ensures mesh { IsMesh dcel.new }
 {

@@ -6,13 +6,13 @@ ghost use Rattle.dcel_maps.specs.Shapes.{IsLive};
 ghost use Rattle.dcel_plane.specs.Edges.{edges_inserted};
 ghost use Rattle.dcel_plane.specs.Plane.{point_at};
 ghost use Rattle.dcel_plane.specs.removal.Wheels.{MakesTwo};
+ghost use Rattle.dcel_planar.specs.Growing.{IsTriangleMesh};
 ghost use Rattle.spade_dcel.specs.Handles.{mesh_behind, number_of};
 ghost use Rattle.dcel_delaunay.specs.Removing.{BeginsBorder, IsFilled, IsGivenUp, IsThinnedOut};
-ghost use Rattle.dcel_delaunay.specs.Staying.{DefaultIsLoose, IsLegalBut};
 
+use crate::free::FreeByDefault;
 use crate::remove::Due;
 use crate::remove::flips::turns_left;
-use dcel_legalize::EdgeConstraint;
 use dcel_planar::{Edge, EdgeMesh, edges_of, point_of};
 use spade_dcel::handles::{FixedDirectedEdgeHandle, FixedFaceHandle, FixedVertexHandle, InnerTag};
 use spade_dcel::laws::every_mesh;
@@ -23,16 +23,15 @@ use std::alloc::{AllocError, Allocator};
 /// hole with one triangle or two, and lists their edges.
 ///
 /// If memory runs out, nothing is changed.
-pub(crate) fn fill<UE: EdgeConstraint + Default, A: Allocator + Clone, L: Allocator>(
+pub(crate) fn fill<UE: FreeByDefault, A: Allocator + Clone, L: Allocator>(
     dcel: &mut EdgeMesh<UE, A>,
     due: &mut Due<L>,
     vertex: FixedVertexHandle,
 ) -> Result<IsolateVertexResult<A>, AllocError>
-    requires sound { IsLegalBut UE.is_constraint dcel.old due.old.items }
+    requires sound { IsTriangleMesh dcel.old }
     requires thin { IsThinnedOut dcel.old vertex }
     requires room { HasRoom dcel.old.shape 0 1 2 }
-    requires default { DefaultIsLoose UE.is_default UE.is_constraint }
-    ensures given_up { IfOk result (λ opened. IsGivenUp UE.is_constraint dcel.old dcel.new vertex due.new.items opened) }
+    ensures given_up { IfOk result (λ opened. IsGivenUp UE.is_constraint dcel.old dcel.new vertex due.old.items due.new.items opened) }
     ensures refused { IfErr result (λ _. (dcel.new ≡ dcel.old) × (due.new.items ≡ due.old.items)) }
 {
     every_mesh(dcel);

@@ -1,9 +1,9 @@
 //! A vertex removed while all are on one line, down to none.
 
-ghost use Rattle.std.specs.Prelude.{◌<◌, []};
-ghost use Rattle.dcel_planar.specs.Growing.{IsFlat, IsDelaunayBut};
+ghost use Rattle.std.specs.Prelude.{◌<◌};
+ghost use Rattle.dcel_planar.specs.Growing.{IsFlat, IsTriangleMesh};
 ghost use Rattle.dcel_delaunay.specs.Removing.{Loses};
-ghost use Rattle.dcel_delaunay.specs.Staying.{HasLooseEdges, LosesNoneStaying};
+ghost use Rattle.dcel_delaunay.specs.Staying.{HasConstraintAt, LosesNoneStaying};
 
 use crate::removed::Removed;
 use dcel_legalize::EdgeConstraint;
@@ -14,19 +14,16 @@ use spade_dcel::operations::remove_when_degenerate;
 use std::alloc::Allocator;
 
 /// Removes a vertex of a line; the others stay on it in their order.
-///
-/// Asks for a mesh without inner faces (`num_faces() == 1`) whose vertices are joined along their line, and for a vertex of
-/// it, none of whose edges has to stay. All edges that have to stay are left.
-pub fn remove_from_line<UE: EdgeConstraint + Drop, A: Allocator>(
+pub(crate) fn remove_from_line<UE: EdgeConstraint + Drop, A: Allocator>(
     dcel: &mut EdgeMesh<UE, A>,
     vertex: FixedVertexHandle,
 ) -> Removed
-    requires sound { IsDelaunayBut dcel.old [] }
+    requires sound { IsTriangleMesh dcel.old }
     requires flat { IsFlat dcel.old }
     requires vertex { vertex < dcel.old.shape.vertices }
-    requires loose { HasLooseEdges UE.is_constraint dcel.old vertex }
+    requires loose { ¬ HasConstraintAt UE.is_constraint dcel.old vertex }
     ensures loses { Loses dcel.old dcel.new vertex result }
-    ensures sound { IsDelaunayBut dcel.new [] }
+    ensures sound { IsTriangleMesh dcel.new }
     ensures flat { IsFlat dcel.new }
     ensures staying { LosesNoneStaying UE.is_constraint dcel.old dcel.new vertex }
 {

@@ -5,7 +5,7 @@ use Rattle.dcel_delaunay.proofs.remove.hole.fill.Goals as goal
 
 pub list_sides-requires-clause-triangle : goal.list_sides-requires-clause-triangle
 list_sides-requires-clause-triangle g c =
-    filled_first _ _ _ _ c.args.dcel.now _ c.every_mesh.ensures c.args.due.now.items c.requires.sound c.args.vertex c.requires.thin c.in_ok-border.border.items c.in_ok-border.ensures
+    filled_first g.UE.EdgeConstraint.is_constraint _ _ _ c.args.dcel.now _ c.every_mesh.ensures c.args.due.now.items c.requires.sound c.args.vertex c.requires.thin c.in_ok-border.border.items c.in_ok-border.ensures
     c.in_ok-opened.ensures.edit c.isolate_vertex_and_fill_hole.ensures.mesh c.new-first.result (c.new-first.ensures ∙ c.num_faces.ensures.count)
 
 pub returns-then-not-two-clause-given_up : goal.returns-then-not-two-clause-given_up
@@ -13,15 +13,15 @@ returns-then-not-two-clause-given_up g c =
     let not : length c.in_ok-border.border.items ≢ 4 =
     λ is.
     (let many : c.len-two.result ≡ 4 = omega (arith, is, c.len-two.ensures, c.in_ok-border.border.ok) in grind (arith, nat_tests, c.if-not-two.true, many)) in
-    filled_three _ _ _ _ c.args.dcel.now _ c.every_mesh.ensures c.args.due.now.items c.requires.sound c.args.vertex c.requires.thin c.in_ok-border.border.items c.in_ok-border.ensures
-    c.in_ok-opened.ensures.edit c.isolate_vertex_and_fill_hole.ensures.mesh c.requires.default _ _ c.new-first.result c.in_ok-opened.ensures.answer not (c.new-first.ensures ∙ c.num_faces.ensures.count)
+    filled_three g.UE.EdgeConstraint.is_constraint _ _ _ c.args.dcel.now _ c.every_mesh.ensures c.args.due.now.items c.requires.sound c.args.vertex c.requires.thin c.in_ok-border.border.items c.in_ok-border.ensures
+    c.in_ok-opened.ensures.edit c.isolate_vertex_and_fill_hole.ensures.mesh g.met.UE.FreeByDefault.default_is_free _ _ c.new-first.result c.in_ok-opened.ensures.answer not (c.new-first.ensures ∙ c.num_faces.ensures.count)
     (rw (c.list_sides.ensures.items, c.reserve.ensures.items) refl)
 
 pub list_sides-requires-2-clause-triangle : goal.list_sides-requires-2-clause-triangle
 list_sides-requires-2-clause-triangle g c =
     let four : length c.in_ok-border.border.items ≡ 4 =
     (let many : c.len-two.result ≡ 4 = grind (arith, nat_tests, c.if-not-two.false) in omega (arith, many, c.len-two.ensures, c.in_ok-border.border.ok)) in
-    filled_second _ _ _ _ c.args.dcel.now _ c.every_mesh.ensures c.args.due.now.items c.requires.sound c.args.vertex c.requires.thin c.in_ok-border.border.items c.in_ok-border.ensures
+    filled_second g.UE.EdgeConstraint.is_constraint _ _ _ c.args.dcel.now _ c.every_mesh.ensures c.args.due.now.items c.requires.sound c.args.vertex c.requires.thin c.in_ok-border.border.items c.in_ok-border.ensures
     c.in_ok-opened.ensures.edit c.isolate_vertex_and_fill_hole.ensures.mesh four c.new.result
     (c.new.ensures ∙ ap (λ n. n + 1) (c.index.ensures.value ∙ c.new-first.ensures ∙ c.num_faces.ensures.count))
 
@@ -29,8 +29,8 @@ pub returns-clause-given_up : goal.returns-clause-given_up
 returns-clause-given_up g c =
     let four : length c.in_ok-border.border.items ≡ 4 =
     (let many : c.len-two.result ≡ 4 = grind (arith, nat_tests, c.if-not-two.false) in omega (arith, many, c.len-two.ensures, c.in_ok-border.border.ok)) in
-    filled_four _ _ _ _ c.args.dcel.now _ c.every_mesh.ensures c.args.due.now.items c.requires.sound c.args.vertex c.requires.thin c.in_ok-border.border.items c.in_ok-border.ensures
-    c.in_ok-opened.ensures.edit c.isolate_vertex_and_fill_hole.ensures.mesh c.requires.default _ _ c.new-first.result c.new.result c.in_ok-opened.ensures.answer four
+    filled_four g.UE.EdgeConstraint.is_constraint _ _ _ c.args.dcel.now _ c.every_mesh.ensures c.args.due.now.items c.requires.sound c.args.vertex c.requires.thin c.in_ok-border.border.items c.in_ok-border.ensures
+    c.in_ok-opened.ensures.edit c.isolate_vertex_and_fill_hole.ensures.mesh g.met.UE.FreeByDefault.default_is_free _ _ c.new-first.result c.new.result c.in_ok-opened.ensures.answer four
     (c.new-first.ensures ∙ c.num_faces.ensures.count)
     (c.new.ensures ∙ ap (λ n. n + 1) (c.index.ensures.value ∙ c.new-first.ensures ∙ c.num_faces.ensures.count))
     (rw (c.list_sides-2.ensures.items, c.list_sides.ensures.items, c.reserve.ensures.items) refl)

@@ -2,6 +2,7 @@ use Rattle.std.proofs.Common.{ap, subst, sym, arith}
 use Rattle.dcel_maps.specs.Renumbering.{cleaned}
 use Rattle.dcel_planar.proofs.Whole.{on_err}
 use Rattle.dcel_delaunay.proofs.Lost.{lost_before, lost_staying, more_vertices, room_still, thin_is}
+use Rattle.dcel_delaunay.proofs.Staying.{legal_trans}
 use Rattle.dcel_delaunay.proofs.TakenOut.{taken_hull, taken_loses, taken_sound, taken_staying}
 use Rattle.dcel_delaunay.specs.Staying.{KeepsStaying}
 use Rattle.dcel_delaunay.proofs.remove.triangles.cut_out.Goals as goal
@@ -15,7 +16,7 @@ fill-requires-clause-thin g c =
 pub fill-requires-clause-room : goal.fill-requires-clause-room
 fill-requires-clause-room g c =
     let thinned = c.thin_out.ensures in
-    room_still c.args.dcel.now c.thin_out.new.dcel c.requires.sound.triangulated thinned.sound.triangulated (omega (arith, c.requires.vertex))
+    room_still c.args.dcel.now c.thin_out.new.dcel c.requires.sound thinned.sound.triangulated (omega (arith, c.requires.vertex))
     thinned.keeps.vertices thinned.same_edges c.requires.room
 
 pub take_out-requires-clause-given_up : goal.take_out-requires-clause-given_up
@@ -30,15 +31,16 @@ pub returns-clause-sound : goal.returns-clause-sound
 returns-clause-sound g c =
     let mid = c.thin_out.new.dcel in
     let thinned = c.thin_out.ensures in
-    taken_sound _ mid c.fill.new.dcel c.take_out.new.dcel c.args.vertex c.fill.new.due.items c.take_out.new.due.items _ c.in_ok-opened.ensures.given_up
+    legal_trans _ c.args.dcel.now mid c.take_out.new.dcel c.args.due.now.items c.thin_out.new.due.items c.take_out.new.due.items thinned.sound
+    (taken_sound _ mid c.fill.new.dcel c.take_out.new.dcel c.args.vertex c.thin_out.new.due.items c.fill.new.due.items c.take_out.new.due.items _ c.in_ok-opened.ensures.given_up
     (omega (arith, c.requires.vertex, thinned.keeps.vertices)) (more_vertices mid thinned.mesh thinned.sound.triangulated thinned.hull) c.take_out.ensures.clean
-    c.take_out.ensures.mesh c.take_out.ensures.edit c.take_out.ensures.due
+    c.take_out.ensures.mesh c.take_out.ensures.edit c.take_out.ensures.due)
 
 pub returns-clause-hull : goal.returns-clause-hull
 returns-clause-hull g c =
     let mid = c.thin_out.new.dcel in
     let thinned = c.thin_out.ensures in
-    taken_hull _ mid c.fill.new.dcel c.take_out.new.dcel c.args.vertex c.fill.new.due.items c.take_out.new.due.items _ c.in_ok-opened.ensures.given_up
+    taken_hull _ mid c.fill.new.dcel c.take_out.new.dcel c.args.vertex c.thin_out.new.due.items c.fill.new.due.items c.take_out.new.due.items _ c.in_ok-opened.ensures.given_up
     (omega (arith, c.requires.vertex, thinned.keeps.vertices)) (more_vertices mid thinned.mesh thinned.sound.triangulated thinned.hull) c.take_out.ensures.clean
     c.take_out.ensures.mesh c.take_out.ensures.edit c.take_out.ensures.due
 
@@ -47,7 +49,7 @@ returns-clause-loses g c =
     let mid = c.thin_out.new.dcel in
     let thinned = c.thin_out.ensures in
     lost_before c.args.dcel.now mid c.take_out.new.dcel c.args.vertex c.take_out.result thinned.keeps.points thinned.keeps.vertices
-    (taken_loses _ mid c.fill.new.dcel c.take_out.new.dcel c.args.vertex c.fill.new.due.items c.take_out.new.due.items _ c.in_ok-opened.ensures.given_up
+    (taken_loses _ mid c.fill.new.dcel c.take_out.new.dcel c.args.vertex c.thin_out.new.due.items c.fill.new.due.items c.take_out.new.due.items _ c.in_ok-opened.ensures.given_up
     (omega (arith, c.requires.vertex, thinned.keeps.vertices)) (more_vertices mid thinned.mesh thinned.sound.triangulated thinned.hull) c.take_out.ensures.clean
     c.take_out.ensures.mesh c.take_out.ensures.edit c.take_out.ensures.due c.take_out.result c.take_out.ensures.point c.take_out.ensures.moved)
 
@@ -56,6 +58,6 @@ returns-clause-staying g c =
     let mid = c.thin_out.new.dcel in
     let thinned = c.thin_out.ensures in
     lost_staying _ c.args.dcel.now mid c.take_out.new.dcel c.args.vertex thinned.keeps.vertices thinned.staying
-    (taken_staying _ mid c.fill.new.dcel c.take_out.new.dcel c.args.vertex c.fill.new.due.items c.take_out.new.due.items _ c.in_ok-opened.ensures.given_up
+    (taken_staying _ mid c.fill.new.dcel c.take_out.new.dcel c.args.vertex c.thin_out.new.due.items c.fill.new.due.items c.take_out.new.due.items _ c.in_ok-opened.ensures.given_up
     (omega (arith, c.requires.vertex, thinned.keeps.vertices)) (more_vertices mid thinned.mesh thinned.sound.triangulated thinned.hull) c.take_out.ensures.clean
     c.take_out.ensures.mesh c.take_out.ensures.edit c.take_out.ensures.due)

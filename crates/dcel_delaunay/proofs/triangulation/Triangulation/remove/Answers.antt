@@ -1,45 +1,22 @@
-use Rattle.std.proofs.Common.{◌≡◌, ◌≢◌, refl, arith}
-use Rattle.dcel_maps.specs.Shapes.{face_count}
+use Rattle.std.proofs.Common.{arith}
 use Rattle.dcel_delaunay.proofs.Listed.{never, of_loose, settled, to_loose}
-use Rattle.dcel_planar.proofs.Whole.{either_outside, flat_alone, hull_more}
+use Rattle.dcel_delaunay.proofs.Lost.{removal_fails}
 use Rattle.dcel_delaunay.proofs.triangulation.Triangulation.remove.Goals as goal
 
-pub remove_from_line-requires-clause-sound : goal.remove_from_line-requires-clause-sound
-remove_from_line-requires-clause-sound g c =
+pub remove_vertex-requires-clause-hull : goal.remove_vertex-requires-clause-hull
+remove_vertex-requires-clause-hull g c = let mid = c.finish.new.self in (settled mid.planar mid.listed c.in-Ok.ensures.whole).hull
+
+pub remove_vertex-requires-clause-loose : goal.remove_vertex-requires-clause-loose
+remove_vertex-requires-clause-loose g c at = never _ at.2
+
+pub invariant_of-self : goal.invariant_of-self
+invariant_of-self g c =
     let mid = c.finish.new.self in
-    (settled mid.planar mid.listed c.in-Ok.ensures.whole).sound
+    let new = c.remove_vertex.new.mesh in
+    record { listed = of_loose new.dcel new.due.items (c.remove_vertex.ensures.lists (to_loose mid.planar.dcel mid.planar.due.items mid.listed)) }
 
-pub remove_from_line-requires-clause-flat : goal.remove_from_line-requires-clause-flat
-remove_from_line-requires-clause-flat g c =
+pub returns-in-Err-clause-refuses : goal.returns-in-Err-clause-refuses
+returns-in-Err-clause-refuses g c =
     let mid = c.finish.new.self in
-    let one : face_count mid.planar.dcel.shape ≡ 1 = omega (arith, c.num_faces.ensures.count) in
-    flat_alone mid.planar.dcel (settled mid.planar mid.listed c.in-Ok.ensures.whole).hull one
-
-pub remove_from_triangles-requires-clause-hull : goal.remove_from_triangles-requires-clause-hull
-remove_from_triangles-requires-clause-hull g c =
-    let mid = c.finish.new.self in
-    let more : face_count mid.planar.dcel.shape ≢ 1 = λ one. omega (arith, c.num_faces.ensures.count, one) in
-    hull_more mid.planar.dcel (settled mid.planar mid.listed c.in-Ok.ensures.whole).hull more
-
-pub remove_from_line-requires-clause-loose : goal.remove_from_line-requires-clause-loose
-remove_from_line-requires-clause-loose g c h out stay = never _ stay
-
-pub remove_from_triangles-requires-clause-sound : goal.remove_from_triangles-requires-clause-sound
-remove_from_triangles-requires-clause-sound g c =
-    let mid = c.finish.new.self in
-    record { triangulated = mid.planar.triangulated; listed = to_loose mid.planar.dcel mid.planar.due.items mid.listed }
-
-pub remove_from_triangles-requires-clause-loose : goal.remove_from_triangles-requires-clause-loose
-remove_from_triangles-requires-clause-loose g c h out stay = never _ stay
-
-pub remove_from_triangles-requires-clause-default : goal.remove_from_triangles-requires-clause-default
-remove_from_triangles-requires-clause-default g c datum is = refl
-
-pub invariant_of-self-2 : goal.invariant_of-self-2
-invariant_of-self-2 g c =
-    let new = c.remove_from_triangles.new.dcel in
-    let due = c.remove_from_triangles.new.due.items in
-    let sound = c.remove_from_triangles.ensures.sound in (
-      (sound.triangulated, (∣ either_outside new due c.remove_from_triangles.ensures.hull ∣₁, tt)),
-      (of_loose new due sound.listed, tt),
-    )
+    removal_fails c.args.self.now.planar mid.planar c.remove_vertex.new.mesh c.args.vertex c.finish.ensures.points c.finish.ensures.same c.in-Ok.ensures.whole
+    (omega (arith, c.index.ensures.value, c.num_vertices.ensures.count, c.if-index-num_vertices.false)) c.in-Err.error c.in-Err.ensures.fails
