@@ -20,8 +20,6 @@ pub enum Format {
 pub enum Output {
     /// The mesh, in a format.
     Mesh(Format),
-    /// A picture of it.
-    Svg,
     /// How much it has of what.
     Stats,
     /// Nothing but whether the file has a mesh.
@@ -51,6 +49,8 @@ pub struct Arguments<'a> {
     pub output: Output,
     /// The file to write; if there is none, standard output.
     pub target: Option<&'a str>,
+    /// The file for a picture.
+    pub svg: Option<&'a str>,
     /// Whether places are found for vertices that have no coordinates.
     pub are_placed: bool,
 }
@@ -82,7 +82,8 @@ For --check-delaunay all vertices have one third coordinate. The first two, time
 of ten that makes all of them whole, are from -9007199254740992 to 9007199254740992.
 
 What the output has no place for is left out, and named on standard error. A file that has no mesh
-is refused with the first thing that is wrong with it. Messages number vertices and faces from 0,
+is refused with the first thing that is wrong with it; so are words with two edges between the same
+vertices where faces are written, and by --check a surface without a face. Messages number vertices and faces from 0,
 those of OBJ files too.";
 
 /// What the program takes.
@@ -108,6 +109,12 @@ pub const PROGRAM: Program<'static, Output> = Program {
             letter: None,
             takes: Takes::Nothing,
             help: "Finds coordinates for words, as a picture does",
+        },
+        Switch {
+            name: "svg",
+            letter: None,
+            takes: Takes::File,
+            help: "Draws a picture into this file, too: of the mesh where it lies if it is flat",
         },
     ],
     choices: OUTPUTS,
@@ -141,12 +148,6 @@ const OUTPUTS: &[Choice<'static, Output>] = &[
         help: "Writes words",
     },
     Choice {
-        name: "svg",
-        means: Output::Svg,
-        excludes: &[],
-        help: "Draws the mesh: where it lies if it is flat, else with places of its own",
-    },
-    Choice {
         name: "stats",
         means: Output::Stats,
         excludes: &[],
@@ -161,7 +162,7 @@ const OUTPUTS: &[Choice<'static, Output>] = &[
     Choice {
         name: "check-delaunay",
         means: Output::CheckDelaunay,
-        excludes: &[],
+        excludes: &["svg"],
         help: "Writes nothing but why the file has no Delaunay triangulation of its vertices",
     },
 ];
@@ -183,6 +184,7 @@ impl<'a> Arguments<'a> {
                 None => Output::Mesh(format_of(target)),
             },
             target,
+            svg: given.value("svg"),
             are_placed: given.has("places"),
         }
     }

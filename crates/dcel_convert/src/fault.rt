@@ -125,4 +125,7 @@ impl Wrong {
 
     /// There is no vertex and no face.
     pub const NOTHING: Wrong = Wrong::Plain("the file has no vertex and no face");
+
+    /// There is no face.
+    pub const NO_FACE: Wrong = Wrong::Plain("the file has no face");
 }

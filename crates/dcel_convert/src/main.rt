@@ -11,6 +11,7 @@ mod arguments;
 mod claim;
 mod claimed;
 mod delaunay_check;
+mod doubled;
 mod drawing;
 mod fault;
 mod header;
@@ -31,6 +32,7 @@ use crate::arguments::{Arguments, Format, Output, PROGRAM};
 use crate::claim::Claim;
 use crate::claimed::{check, claimed_mesh};
 use crate::delaunay_check::check_delaunay;
+use crate::doubled::refuse_doubled;
 use crate::drawing::{Drawing, place_flat, place_vertices};
 use crate::fault::{Fault, Wrong};
 use crate::left_out::tell_left_out;
@@ -94,7 +96,7 @@ fn convert_surface(
 }
 
 /// Names what is left out of a surface, unless only what is wrong is told. A surface of nothing is
-/// wrong.
+/// wrong, and one of vertices alone if it is checked.
 fn tell_of_surface(
     rt: &(impl Eprint + AllocGlobal),
     arguments: &Arguments,
@@ -105,6 +107,9 @@ fn tell_of_surface(
     }
     if surface.places.is_empty() && surface.faces.is_empty() {
         return Err(Fault::Input(Wrong::NOTHING));
+    }
+    if arguments.output == Output::Check && surface.faces.is_empty() {
+        return Err(Fault::Input(Wrong::NO_FACE));
     }
     Ok(())
 }
@@ -175,12 +180,13 @@ fn write_claimed(
 }
 
 /// Finds coordinates for the vertices of words, if these are asked for, and else tells that they have
-/// none.
+/// none. Faces that would not tell the mesh are refused.
 fn set_places(
     rt: &(impl Eprint + AllocGlobal),
     arguments: &Arguments,
     solid: &mut Solid,
 ) -> Result<(), Fault> {
+    refuse_doubled(rt.alloc(), &solid.mesh)?;
     tell_left_out(rt, EDGE_OUTSIDE, solid.num_edges_outside())?;
     if arguments.are_placed {
         place_vertices(rt.alloc(), &mut solid.mesh)?;
@@ -194,39 +200,43 @@ fn set_places(
 
 const EDGE_OUTSIDE: &str = "an edge with the outer face on both sides";
 
-/// Writes what is asked for of a mesh.
+/// Draws a mesh, if that is asked for, and writes what is.
 fn write_solid(
     rt: &(impl Files + Print + Eprint + AllocGlobal),
     arguments: &Arguments,
     solid: &Solid,
 ) -> Result<(), Fault> {
+    if let Some(path) = arguments.svg {
+        draw(rt, arguments, path, &solid.mesh)?;
+    }
     match arguments.output {
         Output::Check => Ok(()),
         // Faces are checked before, so these are words.
         Output::CheckDelaunay => Err(Fault::Input(Wrong::NO_COORDINATES)),
         Output::Stats => write_out(rt, arguments.target, &Stats::of_mesh(solid)),
-        Output::Svg => draw(rt, arguments, &solid.mesh),
         Output::Mesh(format) => write_out(rt, arguments.target, &Written { format, solid }),
     }
 }
 
-/// Draws a mesh, where it lies if it is flat.
+/// Draws a mesh into a file, where it lies if it is flat.
 fn draw(
     rt: &(impl Files + Print + Eprint + AllocGlobal),
     arguments: &Arguments,
+    path: &str,
     mesh: &Mesh,
 ) -> Result<(), Fault> {
     let mut places = Places {
         vertices: Vec::new(rt.alloc()),
         bends: Vec::new(rt.alloc()),
     };
-    draw_at(rt, arguments, mesh, &mut places)
+    draw_at(rt, arguments, path, mesh, &mut places)
 }
 
-/// Draws a mesh at places that are to be found.
+/// Draws a mesh into a file at places that are to be found.
 fn draw_at(
     rt: &(impl Files + Print + Eprint + AllocGlobal),
     arguments: &Arguments,
+    path: &str,
     mesh: &Mesh,
     places: &mut Places,
 ) -> Result<(), Fault> {
@@ -236,5 +246,5 @@ fn draw_at(
         }
         *places = spread(rt.alloc(), mesh, None)?;
     }
-    write_out(rt, arguments.target, &Drawing { mesh, places })
+    write_out(rt, Some(path), &Drawing { mesh, places })
 }

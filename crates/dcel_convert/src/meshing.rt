@@ -239,19 +239,19 @@ pub fn is_simple<T: Copy + Ord + Drop>(alloc: Global, corners: &[T]) -> Result<b
     let mut sorted = Vec::new(alloc);
     sorted.extend_from_slice(corners)?;
     sorted.sort()?;
-    Ok(!repeats(&sorted))
+    Ok(repeated(&sorted).is_none())
 }
 
-/// Returns whether an item of a list follows an equal one.
-fn repeats<T: Copy + Ord>(list: &[T]) -> bool {
+/// Returns the first item of a list that follows an equal one.
+pub fn repeated<T: Copy + Ord>(list: &[T]) -> Option<T> {
     let mut last = None;
     for item in list {
         if last == Some(*item) {
-            return true;
+            return last;
         }
         last = Some(*item);
     }
-    false
+    None
 }
 
 /// Returns the reason, with the line of the face that it names, if it names one. If the surface as

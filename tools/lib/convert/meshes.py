@@ -82,6 +82,21 @@ def left_out_of_faces(mesh):
     return f"dcel_convert: left out: an edge with the outer face on both sides ({count})\n" if count else ""
 
 
+def doubled_ends(mesh):
+    """The least two vertices that two edges join of which each has a face beside it that isn't the outer one, or None."""
+    edges = Counter(
+        tuple(sorted((mesh.origins[half], mesh.to(half))))
+        for half in range(0, 2 * mesh.edge_count(), 2)
+        if mesh.face(half) != 0 or mesh.face(other(half)) != 0
+    )
+    return min((ends for ends, count in edges.items() if count > 1), default=None)
+
+
+def refused_as_doubled(ends):
+    """What is said of such vertices."""
+    return f"dcel_convert: two edges join vertices {ends[0]} and {ends[1]}: words alone can tell them apart\n"
+
+
 def told_of_zeros(mesh):
     """What is said where no places are asked for."""
     return "dcel_convert: words have no coordinates: all are 0, and --places finds some\n" if mesh.data else ""
