@@ -2,7 +2,20 @@
 
 use dcel_programs::{Choice, Given, Program, Switch, Takes};
 
-/// How a file says a mesh.
+/// What a file is read as.
+#[derive(Clone, Copy, PartialEq, Eq)]
+pub enum Source {
+    /// The Object File Format.
+    Off,
+    /// Wavefront's OBJ.
+    Obj,
+    /// The Polygon File Format, as text or binary.
+    Ply,
+    /// Words, as they are written.
+    Words,
+}
+
+/// How a mesh is written.
 #[derive(Clone, Copy, PartialEq, Eq)]
 pub enum Format {
     /// The Object File Format.
@@ -44,7 +57,7 @@ pub struct Arguments<'a> {
     /// The file; if there is none, standard input.
     pub file: Option<&'a str>,
     /// What the file is written in.
-    pub format: Format,
+    pub source: Source,
     /// What to write.
     pub output: Output,
     /// The file to write; if there is none, standard output.
@@ -67,8 +80,10 @@ The file is read as OFF, or as its name ends: .obj, .ply or .words. Faces list t
 counterclockwise, as seen from outside. The border is the outer face; on a surface without one, the
 first face that comes to no vertex twice is, and standard error tells which.
 
-OFF and PLY are read line by line, with what else a line has left out, or else number by number,
-wherever lines end. In OBJ a line that ends in \\ goes on in the next one. PLY has to be text.
+OFF and PLY as text are read line by line, with what else a line has left out, or else number by
+number, wherever lines end. In OBJ a line that ends in \\ goes on in the next one. Floats of binary
+PLY become the shortest decimals that read back to them by their own size, and messages number
+bytes from 0.
 
 A file of words has what dcel_run answers to counts, to words, and to out for each vertex in their
 order. A word or an out line may begin with any of its half edges. A last line 'closed N' tells that
@@ -175,13 +190,10 @@ impl<'a> Arguments<'a> {
         let target = given.file("output");
         Arguments {
             file,
-            format: match given.value("from") {
-                Some(name) => format_named(name),
-                None => format_of(file),
-            },
+            source: source_named(given.value("from").unwrap_or(ending_of(file))),
             output: match given.choice(OUTPUTS) {
                 Some(output) => output,
-                None => Output::Mesh(format_of(target)),
+                None => Output::Mesh(format_named(ending_of(target))),
             },
             target,
             svg: given.value("svg"),
@@ -190,14 +202,24 @@ impl<'a> Arguments<'a> {
     }
 }
 
-/// Returns what a file of this name is written in, by its ending.
-fn format_of(file: Option<&str>) -> Format {
+/// Returns what stands behind the last point of a file's name, if there is one.
+fn ending_of(file: Option<&str>) -> &str {
     match file {
         Some(name) => match name.rsplit_once('.') {
-            Some((_, ending)) => format_named(ending),
-            None => Format::Off,
+            Some((_, ending)) => ending,
+            None => "",
         },
-        None => Format::Off,
+        None => "",
+    }
+}
+
+/// Returns what a file of this ending is read as, in upper or lower case, or else OFF.
+fn source_named(name: &str) -> Source {
+    match format_named(name) {
+        Format::Off => Source::Off,
+        Format::Obj => Source::Obj,
+        Format::Ply => Source::Ply,
+        Format::Words => Source::Words,
     }
 }
 

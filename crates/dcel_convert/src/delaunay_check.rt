@@ -5,7 +5,7 @@ ghost use Rattle.dcel_plane.specs.Plane.{point_at};
 ghost use Rattle.dcel_plane.specs.covering.Delaunay.{IsDelaunayTriangulation};
 
 use crate::fault::{Fault, Wrong};
-use crate::meshing::{at_place, fault_of};
+use crate::meshing::fault_of;
 use crate::surface::Surface;
 use dcel_decimals::{Decimal, DecimalError, Scale};
 use dcel_exchange::from_faces;
@@ -201,7 +201,7 @@ fn reason_of(alloc: Global, surface: &Surface, mesh: &PlaneMesh) -> Fault {
         return Fault::Input(Wrong::Plain("there is no face"));
     }
     if let Some((face, flaw)) = flaw_of_face(mesh) {
-        return at_place(&surface.lines, face, wrong_of(alloc, flaw));
+        return surface.at_face(alloc, face, wrong_of(alloc, flaw));
     }
     if let Some(vertex) = vertex_without_edge(mesh) {
         return at_vertex(alloc, surface, vertex, Flaw::NoEdge(vertex));
@@ -283,7 +283,7 @@ fn flaw_of_border(mesh: &PlaneMesh) -> Flaw {
 }
 
 fn at_vertex(alloc: Global, surface: &Surface, vertex: usize, flaw: Flaw) -> Fault {
-    at_place(&surface.vertex_lines, vertex, wrong_of(alloc, flaw))
+    surface.at_vertex(alloc, vertex, wrong_of(alloc, flaw))
 }
 
 fn wrong_of(alloc: Global, flaw: Flaw) -> Wrong {

@@ -58,6 +58,11 @@ impl Wrong {
     }
 }
 
+/// Returns what is wrong with a binary file, with the byte, from 0 on, that shows it.
+pub fn at_byte(alloc: Global, byte: usize, wrong: Wrong) -> Fault {
+    Fault::Input(Wrong::text(format!(in alloc; "byte {byte}: {wrong}")))
+}
+
 /// A number is not written as one, or out of range.
 pub const NO_NUMBER: &str = "a number is not written as one, or out of range";
 
@@ -76,9 +81,9 @@ impl Wrong {
     /// The file is binary OFF.
     pub const BINARY_OFF: Wrong = Wrong::Plain("this is binary OFF, and only OFF as text is read");
 
-    /// The file is binary PLY.
-    pub const BINARY_PLY: Wrong = Wrong::Plain(
-        "this is binary PLY, and only PLY as text is read (format ascii)",
+    /// A type of a header of PLY is none, or none of whole numbers.
+    pub const NO_TYPE: Wrong = Wrong::Plain(
+        "the header has a property of no type of PLY, or a length or corners that aren't whole",
     );
 
     /// A line is none of a header of PLY.
@@ -88,6 +93,9 @@ impl Wrong {
     pub const PARTIAL_HEADER: Wrong = Wrong::Plain(
         "the header lacks one of format, x, y, z of vertex, vertex_indices of face",
     );
+
+    /// A number of a binary file is no length and no corner.
+    pub const NO_COUNT: Wrong = Wrong::Plain("a length or a corner is below 0");
 
     /// Something is missing.
     pub const TOO_FEW: Wrong = Wrong::Plain("there are too few numbers");

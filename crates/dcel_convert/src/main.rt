@@ -8,6 +8,7 @@
 #![tactic(auto)]
 
 mod arguments;
+mod bytes;
 mod claim;
 mod claimed;
 mod delaunay_check;
@@ -22,13 +23,14 @@ mod obj;
 mod off;
 mod ply;
 mod reading;
+mod shortest;
 mod shown;
 mod stats;
 mod surface;
 mod words;
 mod writing;
 
-use crate::arguments::{Arguments, Format, Output, PROGRAM};
+use crate::arguments::{Arguments, Format, Output, PROGRAM, Source};
 use crate::claim::Claim;
 use crate::claimed::{check, claimed_mesh};
 use crate::delaunay_check::check_delaunay;
@@ -59,7 +61,7 @@ fn convert(
     progress: Progress,
     arguments: &Arguments,
 ) -> Result<(), Fault> {
-    if arguments.format == Format::Words {
+    if arguments.source == Source::Words {
         let mut claim = Claim::new(rt.alloc());
         convert_words(rt, progress, arguments, &mut claim)
     } else {
@@ -241,7 +243,7 @@ fn draw_at(
     places: &mut Places,
 ) -> Result<(), Fault> {
     if !place_flat(rt.alloc(), mesh, places)? {
-        if arguments.format != Format::Words {
+        if arguments.source != Source::Words {
             tell_left_out(rt, COORDINATES, mesh.num_vertices())?;
         }
         *places = spread(rt.alloc(), mesh, None)?;

@@ -254,7 +254,7 @@ pub fn repeated<T: Copy + Ord>(list: &[T]) -> Option<T> {
     None
 }
 
-/// Returns the reason, with the line of the face that it names, if it names one. If the surface as
+/// Returns the reason, with the place of the face that it names, if it names one. If the surface as
 /// a whole is none that is taken, tells what it is.
 pub fn fault_of(alloc: Global, reason: FacesError, vertices: usize, surface: &Surface) -> Fault {
     let face = match reason {
@@ -268,11 +268,7 @@ pub fn fault_of(alloc: Global, reason: FacesError, vertices: usize, surface: &Su
         }
         _ => return Fault::Input(Wrong::text(format!(in alloc; "{reason}"))),
     };
-    at_place(
-        &surface.lines,
-        face,
-        Wrong::text(format!(in alloc; "{reason}")),
-    )
+    surface.at_face(alloc, face, Wrong::text(format!(in alloc; "{reason}")))
 }
 
 /// Tells what a surface as a whole is.
@@ -280,13 +276,5 @@ fn fault_of_whole(alloc: Global, vertices: usize, faces: &[Vec<u32>]) -> Fault {
     match Stats::of_faces(alloc, vertices, faces) {
         Ok(stats) => Fault::Input(Wrong::Surface(stats)),
         Err(error) => Fault::OutOfMemory(error),
-    }
-}
-
-/// Returns what is wrong, with the line of this place in a list, if it has one.
-pub fn at_place(lines: &[usize], place: usize, wrong: Wrong) -> Fault {
-    match lines.get(place) {
-        Some(line) => Fault::Line { line: *line, wrong },
-        None => Fault::Input(wrong),
     }
 }

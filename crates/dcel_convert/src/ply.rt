@@ -1,12 +1,19 @@
 //! Files in the Polygon File Format: a header that says which numbers each element has, and then
-//! these, as text, wherever lines end.
+//! these, as text, wherever lines end, or as bytes.
 
+mod binary;
 mod header;
 
+use crate::bytes::ByteReader;
 use crate::fault::Wrong;
-use crate::ply::header::{Element, Kind, Property, Purpose, element_of, is_complete, property_of};
+use crate::ply::binary::read_elements;
+use crate::ply::header::{
+    Element, Encoding, Kind, Property, Purpose, element_of, encoding_of, is_complete, is_typed,
+    property_of,
+};
 use crate::reading::{LineReader, number};
-use crate::surface::{BEHIND_COORDINATES, BEHIND_CORNERS, Surface};
+use crate::surface::{BEHIND_COORDINATES, BEHIND_CORNERS, OTHER_ELEMENT, Surface};
+pub use header::{header_of, is_binary};
 use std::alloc::{AllocError, Global};
 use std::mem;
 use std::str::SplitAsciiWhitespace;
@@ -26,7 +33,8 @@ enum Stage {
 #[derive(Drop)]
 pub struct PlyReader {
     stage: Stage,
-    has_format: bool,
+    /// How the elements are written, once the header says it.
+    encoding: Option<Encoding>,
     /// The elements that are still to come, the next one last.
     elements: Vec<Element>,
     /// How many of the last element are complete.
@@ -46,7 +54,7 @@ impl PlyReader {
     pub fn new(alloc: Global) -> Self {
         PlyReader {
             stage: Stage::Word,
-            has_format: false,
+            encoding: None,
             elements: Vec::new(alloc),
             complete: 0,
             place: 0,
@@ -84,6 +92,25 @@ impl LineReader<Surface> for PlyReader {
 }
 
 impl PlyReader {
+    /// Reads the elements of a binary file, whose header has so many bytes and was read. Returns what
+    /// is wrong with them, and at which byte.
+    pub fn take_bytes(
+        &self,
+        alloc: Global,
+        header: usize,
+        bytes: &[u8],
+        surface: &mut Surface,
+    ) -> Result<(), (usize, Wrong)> {
+        let (Stage::Elements, Some(Encoding::Binary(order))) = (self.stage, self.encoding) else {
+            return Err((header, Wrong::FEWER_LINES));
+        };
+        let mut reader = ByteReader::new(bytes, order, header);
+        match read_elements(alloc, &mut reader, &self.elements, surface) {
+            Ok(()) => Ok(()),
+            Err(wrong) => Err((reader.last_place(), wrong)),
+        }
+    }
+
     /// Reads the first word of a file.
     fn take_word(&mut self, alloc: Global, mut words: SplitAsciiWhitespace) -> Result<(), Wrong> {
         match words.next() {
@@ -108,16 +135,17 @@ impl PlyReader {
         }
     }
 
-    /// Reads whether the numbers are text.
+    /// Reads whether the numbers are text. It is said once.
     fn take_format(&mut self, mut words: SplitAsciiWhitespace) -> Result<(), Wrong> {
-        match words.next() {
-            Some("ascii") => {
-                self.has_format = true;
-                Ok(())
-            }
-            Some("binary_little_endian") | Some("binary_big_endian") => Err(Wrong::BINARY_PLY),
-            _ => Err(Wrong::NO_HEADER),
+        let Some(name) = words.next() else {
+            return Err(Wrong::NO_HEADER);
+        };
+        let encoding = encoding_of(name);
+        if encoding.is_none() || self.encoding.is_some() {
+            return Err(Wrong::NO_HEADER);
         }
+        self.encoding = encoding;
+        Ok(())
     }
 
     /// Reads the name and the count of elements.
@@ -141,8 +169,14 @@ impl PlyReader {
 
     /// Ends the header: vertices need three coordinates, faces their corners.
     fn end_header(&mut self) -> Result<(), Wrong> {
-        if !self.has_format || !self.elements.iter().all(is_complete) {
+        let Some(encoding) = self.encoding else {
             return Err(Wrong::PARTIAL_HEADER);
+        };
+        if !self.elements.iter().all(is_complete) {
+            return Err(Wrong::PARTIAL_HEADER);
+        }
+        if encoding != Encoding::Text && !self.elements.iter().all(is_typed) {
+            return Err(Wrong::NO_TYPE);
         }
         self.elements.reverse();
         self.stage = Stage::Elements;
@@ -245,9 +279,7 @@ impl PlyReader {
         match kind {
             Kind::Vertex => self.add_vertex(alloc, line, surface)?,
             Kind::Face => self.add_face(alloc, line, surface)?,
-            Kind::Other => surface
-                .left_out
-                .note("an element that is no vertex and no face")?,
+            Kind::Other => surface.left_out.note(OTHER_ELEMENT)?,
         }
         self.place = 0;
         self.complete = self.complete.saturating_add(1);

@@ -1,15 +1,17 @@
-//! Files, which are read whole and then line by line.
+//! Files, which are read whole, and then line by line or as bytes.
 
-use crate::arguments::{Arguments, Format};
+use crate::arguments::{Arguments, Source};
 use crate::claim::Claim;
-use crate::fault::{Fault, NO_NUMBER, Wrong};
+use crate::fault::{Fault, NO_NUMBER, Wrong, at_byte};
 use crate::obj::ObjReader;
 use crate::off::{Layout, OffReader};
-use crate::ply::PlyReader;
-use crate::surface::Surface;
+use crate::ply::{PlyReader, header_of, is_binary};
+use crate::surface::{Counted, Surface};
 use crate::words::WordsReader;
 use dcel_programs::{Progress, numbered_lines, read_text};
-use std::alloc::Global;
+use std::alloc::{AllocError, Global};
+use std::fs;
+use std::io::{self, Read};
 use std::rt::Files;
 
 /// What reads a file line by line, and adds to a target what the lines say.
@@ -28,12 +30,121 @@ pub fn read_surface(
     arguments: &Arguments,
     surface: &mut Surface,
 ) -> Result<(), Fault> {
+    match arguments.source {
+        Source::Obj => read_obj(rt, progress, arguments, surface),
+        Source::Ply => read_ply(rt, progress, arguments, surface),
+        _ => {
+            let text = read_text(rt, arguments.file)?;
+            read_off(rt, progress, text.as_str(), surface)
+        }
+    }
+}
+
+fn read_obj(
+    rt: &(impl Files + Input + Eprint + AllocGlobal),
+    progress: Progress,
+    arguments: &Arguments,
+    surface: &mut Surface,
+) -> Result<(), Fault> {
     let text = read_text(rt, arguments.file)?;
-    let text = text.as_str();
-    match arguments.format {
-        Format::Obj => read_lines(rt, progress, text, &mut ObjReader::new(rt.alloc()), surface),
-        Format::Ply => read_lines(rt, progress, text, &mut PlyReader::new(rt.alloc()), surface),
-        _ => read_off(rt, progress, text, surface),
+    let mut reader = ObjReader::new(rt.alloc());
+    read_lines(rt, progress, text.as_str(), &mut reader, surface)
+}
+
+/// Reads all bytes of a file, or of standard input.
+fn read_bytes(
+    rt: &(impl Files + Input + AllocGlobal),
+    file: Option<&str>,
+) -> Result<Vec<u8>, Fault> {
+    match try_read(rt, file) {
+        Ok(bytes) => Ok(bytes),
+        Err(error) => {
+            let path = file.unwrap_or("standard input");
+            Err(Fault::of_file(rt.alloc(), path, error))
+        }
+    }
+}
+
+fn try_read(rt: &(impl Files + Input + AllocGlobal), file: Option<&str>) -> io::Result<Vec<u8>> {
+    match file {
+        Some(path) => fs::read(rt, path),
+        None => {
+            let mut bytes = Vec::new(rt.alloc());
+            rt.reader().read_to_end(&mut bytes)?;
+            Ok(bytes)
+        }
+    }
+}
+
+/// Returns bytes as text. What is none becomes U+FFFD.
+fn text_of(alloc: Global, bytes: Vec<u8>) -> Result<String, AllocError> {
+    match String::from_utf8(bytes) {
+        Ok(text) => Ok(text),
+        Err(error) => String::from_utf8_lossy(alloc, error.as_bytes()),
+    }
+}
+
+/// Reads lines of bytes.
+fn read_text_lines<R: LineReader<Surface>>(
+    rt: &(impl Eprint + AllocGlobal),
+    progress: Progress,
+    bytes: Vec<u8>,
+    reader: &mut R,
+    surface: &mut Surface,
+) -> Result<(), Fault> {
+    let text = text_of(rt.alloc(), bytes)?;
+    read_lines(rt, progress, text.as_str(), reader, surface)
+}
+
+/// Reads PLY, whose header says whether it is text.
+fn read_ply(
+    rt: &(impl Files + Input + Eprint + AllocGlobal),
+    progress: Progress,
+    arguments: &Arguments,
+    surface: &mut Surface,
+) -> Result<(), Fault> {
+    let bytes = read_bytes(rt, arguments.file)?;
+    let mut reader = PlyReader::new(rt.alloc());
+    if !is_binary(&bytes) {
+        return read_text_lines(rt, progress, bytes, &mut reader, surface);
+    }
+    read_binary_ply(rt, progress, &bytes, &mut reader, surface)
+}
+
+/// Reads binary PLY: the lines of its header, and then bytes.
+fn read_binary_ply(
+    rt: &(impl Eprint + AllocGlobal),
+    progress: Progress,
+    bytes: &[u8],
+    reader: &mut PlyReader,
+    surface: &mut Surface,
+) -> Result<(), Fault> {
+    let (header, elements) = header_of(bytes);
+    read_header(rt, progress, header, reader, surface)?;
+    surface.counted = Counted::Bytes;
+    at(
+        rt.alloc(),
+        reader.take_bytes(rt.alloc(), header.len(), elements, surface),
+    )
+}
+
+/// Reads the lines of a header.
+fn read_header(
+    rt: &(impl Eprint + AllocGlobal),
+    progress: Progress,
+    header: &[u8],
+    reader: &mut PlyReader,
+    surface: &mut Surface,
+) -> Result<(), Fault> {
+    let text = String::from_utf8_lossy(rt.alloc(), header)?;
+    take_lines(rt, progress, text.as_str(), 0, reader, surface)
+}
+
+/// Returns what is wrong at a byte, if anything is.
+fn at(alloc: Global, read: Result<(), (usize, Wrong)>) -> Result<(), Fault> {
+    match read {
+        Ok(()) => Ok(()),
+        Err((byte, wrong)) => Err(at_byte(alloc, byte, wrong)),
     }
 }
 

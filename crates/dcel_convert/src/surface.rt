@@ -1,20 +1,33 @@
 //! What a file says: vertices, faces, and what is left out.
 
-use crate::fault::{NO_COORDINATE, Wrong};
+use crate::bytes::Number;
+use crate::fault::{Fault, NO_COORDINATE, Wrong, at_byte};
 use crate::left_out::LeftOut;
+use crate::shortest::place_of;
 use std::alloc::{AllocError, Global};
 use std::str::SplitAsciiWhitespace;
+
+/// What of a file is counted to tell where something is.
+#[derive(Clone, Copy, Drop)]
+pub enum Counted {
+    /// Lines, from 1 on.
+    Lines,
+    /// Bytes, from 0 on.
+    Bytes,
+}
 
 /// The vertices and faces of a file.
 #[derive(Drop)]
 pub struct Surface {
+    /// What the numbers of lines below are numbers of.
+    pub counted: Counted,
     /// The three coordinates of each vertex, as the file has them, with a space between two.
     pub places: Vec<String>,
-    /// The line of each vertex, from 1 on.
+    /// The line of each vertex, or the byte that it begins at.
     pub vertex_lines: Vec<usize>,
     /// The corners of each face: vertices by number, from 0 on.
     pub faces: Vec<Vec<u32>>,
-    /// The line of each face, from 1 on.
+    /// The line of each face, or the byte that it begins at.
     pub lines: Vec<usize>,
     /// What else is in the file.
     pub left_out: LeftOut,
@@ -24,6 +37,7 @@ impl Surface {
     /// Makes a surface without vertices and faces.
     pub fn new(alloc: Global) -> Self {
         Surface {
+            counted: Counted::Lines,
             places: Vec::new(alloc),
             vertex_lines: Vec::new(alloc),
             faces: Vec::new(alloc),
@@ -61,6 +75,36 @@ impl Surface {
         Ok(())
     }
 
+    /// Adds a vertex that begins at this byte, with three finite numbers as coordinates.
+    pub fn add_numbers(
+        &mut self,
+        alloc: Global,
+        byte: usize,
+        coordinates: &[Number; 3],
+    ) -> Result<(), AllocError> {
+        let place = place_of(alloc, coordinates)?;
+        self.add_place(byte, place)
+    }
+
+    /// Returns what is wrong with a vertex, with its line or byte.
+    pub fn at_vertex(&self, alloc: Global, vertex: usize, wrong: Wrong) -> Fault {
+        self.at(alloc, self.vertex_lines.get(vertex).copied(), wrong)
+    }
+
+    /// Returns what is wrong with a face, with its line or byte.
+    pub fn at_face(&self, alloc: Global, face: usize, wrong: Wrong) -> Fault {
+        self.at(alloc, self.lines.get(face).copied(), wrong)
+    }
+
+    /// Returns what is wrong, with a line or byte if there is one.
+    fn at(&self, alloc: Global, line: Option<usize>, wrong: Wrong) -> Fault {
+        match (line, self.counted) {
+            (Some(line), Counted::Lines) => Fault::Line { line, wrong },
+            (Some(byte), Counted::Bytes) => at_byte(alloc, byte, wrong),
+            (None, _) => Fault::Input(wrong),
+        }
+    }
+
     /// Adds a vertex of this line, with its coordinates as text.
     pub fn add_place(&mut self, line: usize, place: String) -> Result<(), AllocError> {
         self.vertex_lines.push(line)?;
@@ -81,6 +125,9 @@ pub const BEHIND_COORDINATES: &str = "what follows a vertex's coordinates";
 
 /// What is left out behind a face's corners.
 pub const BEHIND_CORNERS: &str = "what follows a face's corners";
+
+/// What is left out where elements are neither vertices nor faces.
+pub const OTHER_ELEMENT: &str = "an element that is no vertex and no face";
 
 /// Adds three coordinates to a place.
 fn add_coordinates(alloc: Global, place: &mut String, coordinates: [&str; 3]) -> Result<(), Wrong> {

@@ -1,9 +1,19 @@
 //! What a header says of elements.
 
+use crate::bytes::{NumberType, Order};
 use crate::fault::Wrong;
 use crate::reading::number;
 use std::alloc::Global;
 use std::str::SplitAsciiWhitespace;
+
+/// What a file says behind its header.
+#[derive(Clone, Copy, PartialEq, Eq, Drop)]
+pub enum Encoding {
+    /// Numbers as text.
+    Text,
+    /// Numbers as bytes, in this order.
+    Binary(Order),
+}
 
 /// What the numbers of a property are.
 #[derive(Clone, Copy, PartialEq, Eq, Drop)]
@@ -20,6 +30,12 @@ pub enum Purpose {
 pub struct Property {
     pub purpose: Purpose,
     pub is_list: bool,
+    /// How the length of a list is written in a binary file.
+    pub length: NumberType,
+    /// How the number is written there, or those of the list are.
+    pub number: NumberType,
+    /// Whether the header names types that it can be read by.
+    pub is_typed: bool,
 }
 
 /// What an element is.
@@ -36,6 +52,54 @@ pub struct Element {
     pub kind: Kind,
     pub count: u32,
     pub properties: Vec<Property>,
+}
+
+/// Returns the bytes of a file up to the end of its header, and those behind it.
+pub fn header_of(bytes: &[u8]) -> (&[u8], &[u8]) {
+    let mut begin: usize = 0;
+    for (place, byte) in bytes.iter().enumerate() {
+        if *byte == b'\n' {
+            let end = place.saturating_add(1);
+            if is_last_line(bytes.get(begin..end).unwrap_or(&[])) {
+                return bytes.split_at_checked(end).unwrap_or((bytes, &[]));
+            }
+            begin = end;
+        }
+    }
+    (bytes, &[])
+}
+
+/// Returns whether a line ends a header.
+fn is_last_line(line: &[u8]) -> bool {
+    line.trim_ascii_start().starts_with(b"end_header")
+}
+
+/// Returns whether the header of a file says that numbers are bytes.
+pub fn is_binary(bytes: &[u8]) -> bool {
+    let (header, _) = header_of(bytes);
+    for line in header.split(|byte| *byte == b'\n') {
+        if says_binary(line) {
+            return true;
+        }
+    }
+    false
+}
+
+fn says_binary(line: &[u8]) -> bool {
+    match line.trim_ascii_start().strip_prefix(b"format") {
+        Some(rest) => rest.trim_ascii_start().starts_with(b"binary_"),
+        None => false,
+    }
+}
+
+/// Returns the encoding of this name.
+pub fn encoding_of(name: &str) -> Option<Encoding> {
+    match name {
+        "ascii" => Some(Encoding::Text),
+        "binary_little_endian" => Some(Encoding::Binary(Order::Little)),
+        "binary_big_endian" => Some(Encoding::Binary(Order::Big)),
+        _ => None,
+    }
 }
 
 /// Returns the elements that a line names and counts.
@@ -57,16 +121,53 @@ pub fn element_of(alloc: Global, mut words: SplitAsciiWhitespace) -> Result<Elem
 
 /// Returns the property that a line names.
 pub fn property_of(kind: Kind, mut words: SplitAsciiWhitespace) -> Option<Property> {
-    let is_list = words.next()? == "list";
-    if is_list {
-        let _ = words.next()?;
-        let _ = words.next()?;
+    let first = words.next()?;
+    if first != "list" {
+        let purpose = purpose_of(kind, false, words.next()?);
+        return Some(property_by(purpose, None, type_of(first)));
     }
-    let name = words.next()?;
-    Some(Property {
-        purpose: purpose_of(kind, is_list, name),
+    let (length, number) = (words.next()?, words.next()?);
+    let purpose = purpose_of(kind, true, words.next()?);
+    Some(property_by(purpose, Some(type_of(length)), type_of(number)))
+}
+
+/// Returns a property of these types, of which each may be unknown. A property that is no list has
+/// no length. Lengths and corners have to be whole.
+fn property_by(
+    purpose: Purpose,
+    length: Option<Option<NumberType>>,
+    number: Option<NumberType>,
+) -> Property {
+    let is_list = length.is_some();
+    let length = length.unwrap_or(Some(NumberType::U8));
+    let is_typed = match (length, number) {
+        (Some(length), Some(number)) => {
+            length.is_whole() && (number.is_whole() || purpose != Purpose::Corners)
+        }
+        _ => false,
+    };
+    Property {
+        purpose,
         is_list,
-    })
+        length: length.unwrap_or(NumberType::U8),
+        number: number.unwrap_or(NumberType::U8),
+        is_typed,
+    }
+}
+
+/// Returns the type of this name, if there is one.
+fn type_of(name: &str) -> Option<NumberType> {
+    match name {
+        "char" | "int8" => Some(NumberType::I8),
+        "uchar" | "uint8" => Some(NumberType::U8),
+        "short" | "int16" => Some(NumberType::I16),
+        "ushort" | "uint16" => Some(NumberType::U16),
+        "int" | "int32" => Some(NumberType::I32),
+        "uint" | "uint32" => Some(NumberType::U32),
+        "float" | "float32" => Some(NumberType::F32),
+        "double" | "float64" => Some(NumberType::F64),
+        _ => None,
+    }
 }
 
 /// Returns what a property of this name is read as.
@@ -100,6 +201,11 @@ pub fn is_complete(element: &Element) -> bool {
         Kind::Face => has_once(element, Purpose::Corners),
         Kind::Other => true,
     }
+}
+
+/// Returns whether each property of elements can be read from a binary file.
+pub fn is_typed(element: &Element) -> bool {
+    element.properties.iter().all(|property| property.is_typed)
 }
 
 /// Returns whether one property is read as this.
