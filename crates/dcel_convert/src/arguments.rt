@@ -11,6 +11,8 @@ pub enum Source {
     Obj,
     /// The Polygon File Format, as text or binary.
     Ply,
+    /// Triangles of stereolithography, as text or binary.
+    Stl,
     /// Words, as they are written.
     Words,
 }
@@ -69,21 +71,22 @@ pub struct Arguments<'a> {
 }
 
 /// What a file may be written in, by the ending of its name too.
-const FORMATS: &[&str] = &["obj", "off", "ply", "words"];
+const FORMATS: &[&str] = &["obj", "off", "ply", "stl", "words"];
 
 const ABOUT: &str = "\
 Converts a file of a mesh, or tells what is wrong with it. It is for surfaces of one connected part,
 of genus 0 (spheres, and discs in space or in the plane), with at most one border";
 
 const DETAILS: &str = "\
-The file is read as OFF, or as its name ends: .obj, .ply or .words. Faces list their corners
+The file is read as OFF, or as its name ends: .obj, .ply, .stl or .words. Faces list their corners
 counterclockwise, as seen from outside. The border is the outer face; on a surface without one, the
 first face that comes to no vertex twice is, and standard error tells which.
 
 OFF and PLY as text are read line by line, with what else a line has left out, or else number by
 number, wherever lines end. In OBJ a line that ends in \\ goes on in the next one. Floats of binary
-PLY become the shortest decimals that read back to them by their own size, and messages number
-bytes from 0.
+PLY and STL become the shortest decimals that read back to them by their own size, and messages
+number bytes from 0. In STL corners whose floats are equal become one vertex. It is binary where the
+file has 84 bytes, and 50 more for each triangle that it counts.
 
 A file of words has what dcel_run answers to counts, to words, and to out for each vertex in their
 order. A word or an out line may begin with any of its half edges. A last line 'closed N' tells that
@@ -215,6 +218,9 @@ fn ending_of(file: Option<&str>) -> &str {
 
 /// Returns what a file of this ending is read as, in upper or lower case, or else OFF.
 fn source_named(name: &str) -> Source {
+    if name.eq_ignore_ascii_case("stl") {
+        return Source::Stl;
+    }
     match format_named(name) {
         Format::Off => Source::Off,
         Format::Obj => Source::Obj,

@@ -85,6 +85,11 @@ impl<'a> ByteReader<'a> {
         self.begin
     }
 
+    /// Has that be read last which begins at this byte.
+    pub fn name(&mut self, byte: usize) {
+        self.begin = byte;
+    }
+
     /// Passes so many bytes, and returns them, if there are so many.
     pub fn pass(&mut self, count: usize) -> Option<&'a [u8]> {
         self.begin = self.end;

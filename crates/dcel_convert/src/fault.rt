@@ -73,10 +73,16 @@ impl Wrong {
     /// There is no first word of OFF.
     pub const NO_OFF: Wrong = Wrong::Plain("the file doesn't begin with OFF");
 
-    /// The first word is that of STL.
-    pub const STL: Wrong = Wrong::Plain(
-        "this looks like STL, which isn't read, since its faces share no vertices",
+    /// A file of STL is too short to be binary, and no text.
+    pub const NO_STL: Wrong = Wrong::Plain(
+        "this is no STL: text begins with solid, and binary files have 84 bytes or more",
     );
+
+    /// A file of STL ends too soon.
+    pub const OPEN_SOLID: Wrong = Wrong::Plain("the file ends before its solid does");
+
+    /// A facet of STL has another number of corners.
+    pub const NO_TRIANGLE: Wrong = Wrong::Plain("a facet of STL has three vertices");
 
     /// The file is binary OFF.
     pub const BINARY_OFF: Wrong = Wrong::Plain("this is binary OFF, and only OFF as text is read");

@@ -34,7 +34,11 @@ pub fn extras_of(alloc: Global, first: &str) -> Result<usize, Wrong> {
 }
 
 /// The first words of other formats, with the formats.
-const OTHERS: [(&str, &str, &str); 2] = [("ply", "PLY", "ply"), ("vertices", "words", "words")];
+const OTHERS: [(&str, &str, &str); 3] = [
+    ("ply", "PLY", "ply"),
+    ("solid", "STL", "stl"),
+    ("vertices", "words", "words"),
+];
 
 fn fault_of(alloc: Global, first: &str) -> Wrong {
     if OBJ_WORDS.contains(&first) {
@@ -44,9 +48,6 @@ fn fault_of(alloc: Global, first: &str) -> Wrong {
         if first == known {
             return looks_like(alloc, format, name);
         }
-    }
-    if first == "solid" {
-        return Wrong::STL;
     }
     if is_other_off(first) {
         return Wrong::beginning(alloc, first, "OFF is read with three coordinates alone");

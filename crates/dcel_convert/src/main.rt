@@ -1,5 +1,5 @@
-//! Converts meshes between files of faces (OBJ, OFF, PLY) and the words of half edges, checks them,
-//! and draws them. `dcel_convert --help` says what it reads and writes. It uses `dcel_exchange`,
+//! Converts meshes between files of faces (OBJ, OFF, PLY, STL) and the words of half edges, checks
+//! them, and draws them. `dcel_convert --help` says what it reads and writes. It uses `dcel_exchange`,
 //! `dcel_planar` and `dcel_svg`.
 //!
 //! It exits with status 0, even if nobody reads its output any more; with 1 if the file has no
@@ -16,6 +16,7 @@ mod doubled;
 mod drawing;
 mod fault;
 mod header;
+mod joining;
 mod left_out;
 mod meshing;
 mod numbers;
@@ -26,6 +27,7 @@ mod reading;
 mod shortest;
 mod shown;
 mod stats;
+mod stl;
 mod surface;
 mod words;
 mod writing;

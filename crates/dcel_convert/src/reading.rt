@@ -6,6 +6,7 @@ use crate::fault::{Fault, NO_NUMBER, Wrong, at_byte};
 use crate::obj::ObjReader;
 use crate::off::{Layout, OffReader};
 use crate::ply::{PlyReader, header_of, is_binary};
+use crate::stl::{StlReader, count_of, is_text, read_binary, wrong_length};
 use crate::surface::{Counted, Surface};
 use crate::words::WordsReader;
 use dcel_programs::{Progress, numbered_lines, read_text};
@@ -33,6 +34,7 @@ pub fn read_surface(
     match arguments.source {
         Source::Obj => read_obj(rt, progress, arguments, surface),
         Source::Ply => read_ply(rt, progress, arguments, surface),
+        Source::Stl => read_stl(rt, progress, arguments, surface),
         _ => {
             let text = read_text(rt, arguments.file)?;
             read_off(rt, progress, text.as_str(), surface)
@@ -138,6 +140,25 @@ fn read_header(
 ) -> Result<(), Fault> {
     let text = String::from_utf8_lossy(rt.alloc(), header)?;
     take_lines(rt, progress, text.as_str(), 0, reader, surface)
+}
+
+/// Reads STL, which is binary if it is as long as it says then, and else text.
+fn read_stl(
+    rt: &(impl Files + Input + Eprint + AllocGlobal),
+    progress: Progress,
+    arguments: &Arguments,
+    surface: &mut Surface,
+) -> Result<(), Fault> {
+    let bytes = read_bytes(rt, arguments.file)?;
+    if let Some(count) = count_of(&bytes) {
+        surface.counted = Counted::Bytes;
+        return at(rt.alloc(), read_binary(rt.alloc(), &bytes, count, surface));
+    }
+    if !is_text(&bytes) {
+        return at(rt.alloc(), Err(wrong_length(rt.alloc(), &bytes)));
+    }
+    let mut reader = StlReader::new(rt.alloc());
+    read_text_lines(rt, progress, bytes, &mut reader, surface)
 }
 
 /// Returns what is wrong at a byte, if anything is.
