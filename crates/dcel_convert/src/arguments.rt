@@ -66,6 +66,8 @@ pub struct Arguments<'a> {
     pub target: Option<&'a str>,
     /// The file for a picture.
     pub svg: Option<&'a str>,
+    /// Whether each part of a surface becomes a mesh of its own.
+    pub has_parts: bool,
     /// Whether places are found for vertices that have no coordinates.
     pub are_placed: bool,
 }
@@ -93,6 +95,11 @@ order. A word or an out line may begin with any of its half edges. A last line '
 the outer face is one of the surface, at place N of the list of faces. Vertices, half edges and
 faces keep their numbers as words. Words have no coordinates: in other formats all are 0, or with
 --places those that a picture gives.
+
+With --parts each connected part of a surface is a mesh by itself. Parts are numbered from 0 in the
+order of their least vertices, and keep the order of vertices and faces. With --output made.off the
+files are made-0.off, made-1.off and so on; so are those of --svg. Nothing is written unless all
+parts are meshes. Vertices without a face are left out.
 
 In a Delaunay triangulation each face is a counterclockwise triangle, no vertex lies inside the
 circle of one, the border is a convex hull that passes no vertex twice, and each vertex has an edge.
@@ -127,6 +134,12 @@ pub const PROGRAM: Program<'static, Output> = Program {
             letter: None,
             takes: Takes::Nothing,
             help: "Finds coordinates for words, as a picture does",
+        },
+        Switch {
+            name: "parts",
+            letter: None,
+            takes: Takes::Nothing,
+            help: "Takes each part of a surface for itself, and writes a file for each",
         },
         Switch {
             name: "svg",
@@ -180,7 +193,7 @@ const OUTPUTS: &[Choice<'static, Output>] = &[
     Choice {
         name: "check-delaunay",
         means: Output::CheckDelaunay,
-        excludes: &["svg"],
+        excludes: &["svg", "parts"],
         help: "Writes nothing but why the file has no Delaunay triangulation of its vertices",
     },
 ];
@@ -200,6 +213,7 @@ impl<'a> Arguments<'a> {
             },
             target,
             svg: given.value("svg"),
+            has_parts: given.has("parts"),
             are_placed: given.has("places"),
         }
     }

@@ -132,6 +132,14 @@ impl Wrong {
     /// Coordinates are asked for, and words have none.
     pub const NO_COORDINATES: Wrong = Wrong::Plain("words have no coordinates");
 
+    /// Parts are asked for, and no file for them.
+    pub const NO_FILES: Wrong = Wrong::Plain("--parts needs --output FILE, for the names of files");
+
+    /// Parts are asked for of words.
+    pub const WORDS_IN_PARTS: Wrong = Wrong::Plain(
+        "words are of one part: --parts is for files of faces",
+    );
+
     /// There is no border, and no face can stand for it.
     pub const NO_BORDER: Wrong = Wrong::Plain(
         "there is no border, and each face comes to a vertex twice",

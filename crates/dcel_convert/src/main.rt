@@ -22,6 +22,7 @@ mod meshing;
 mod numbers;
 mod obj;
 mod off;
+mod parts;
 mod ply;
 mod reading;
 mod shortest;
@@ -41,6 +42,7 @@ use crate::drawing::{Drawing, place_flat, place_vertices};
 use crate::fault::{Fault, Wrong};
 use crate::left_out::tell_left_out;
 use crate::meshing::{Mesh, Solid};
+use crate::parts::{ALONE, check_faces, make_all, name_of, split};
 use crate::reading::{read_claim, read_surface};
 use crate::stats::Stats;
 use crate::surface::Surface;
@@ -64,6 +66,9 @@ fn convert(
     arguments: &Arguments,
 ) -> Result<(), Fault> {
     if arguments.source == Source::Words {
+        if arguments.has_parts {
+            return Err(Fault::Input(Wrong::WORDS_IN_PARTS));
+        }
         let mut claim = Claim::new(rt.alloc());
         convert_words(rt, progress, arguments, &mut claim)
     } else {
@@ -84,7 +89,81 @@ fn convert_faces(
     if arguments.output == Output::CheckDelaunay {
         return check_delaunay(rt.alloc(), surface);
     }
+    if arguments.has_parts {
+        return convert_parts(rt, arguments, surface);
+    }
     convert_surface(rt, arguments, surface)
+}
+
+/// Makes the meshes of the parts of a surface, and then writes a file for each.
+fn convert_parts(
+    rt: &(impl Files + Print + Eprint + AllocGlobal),
+    arguments: &Arguments,
+    surface: &Surface,
+) -> Result<(), Fault> {
+    if arguments.output != Output::Check && arguments.target.is_none() {
+        return Err(Fault::Input(Wrong::NO_FILES));
+    }
+    check_faces(rt.alloc(), surface)?;
+    let mut parts = Vec::new(rt.alloc());
+    convert_split(rt, arguments, surface, &mut parts)
+}
+
+/// Splits a surface into its parts, makes their meshes, and then writes a file for each.
+fn convert_split(
+    rt: &(impl Files + Print + Eprint + AllocGlobal),
+    arguments: &Arguments,
+    surface: &Surface,
+    parts: &mut Vec<Surface>,
+) -> Result<(), Fault> {
+    let alone = split(rt.alloc(), surface, parts)?;
+    if arguments.output != Output::Check {
+        tell_left_out(rt, ALONE, alone)?;
+    }
+    let mut solids = Vec::new(rt.alloc());
+    write_parts(rt, arguments, parts, &mut solids)
+}
+
+/// Makes the meshes of parts, and then writes a file for each.
+fn write_parts(
+    rt: &(impl Files + Print + Eprint + AllocGlobal),
+    arguments: &Arguments,
+    parts: &mut [Surface],
+    solids: &mut Vec<Solid>,
+) -> Result<(), Fault> {
+    make_all(rt.alloc(), parts, solids)?;
+    for (number, solid) in solids.iter().enumerate() {
+        write_part(rt, arguments, number, solid)?;
+    }
+    Ok(())
+}
+
+/// Writes what is asked for of a part.
+fn write_part(
+    rt: &(impl Files + Print + Eprint + AllocGlobal),
+    arguments: &Arguments,
+    number: usize,
+    solid: &Solid,
+) -> Result<(), Fault> {
+    let target = name_of(rt.alloc(), arguments.target.unwrap_or(""), number)?;
+    let svg = name_of(rt.alloc(), arguments.svg.unwrap_or(""), number)?;
+    let own = Arguments {
+        target: arguments.target.map(|_| target.as_str()),
+        svg: arguments.svg.map(|_| svg.as_str()),
+        file: arguments.file,
+        source: arguments.source,
+        output: arguments.output,
+        has_parts: true,
+        are_placed: arguments.are_placed,
+    };
+    if arguments.output != Output::Check {
+        if let Some(place) = solid.outer {
+            eprintln!(rt;
+                "dcel_convert: part {number} is closed: its face {place} becomes the outer face"
+            )?;
+        }
+    }
+    write_marked(rt, &own, solid)
 }
 
 /// Makes the mesh of a surface, and writes what is asked for.
@@ -147,6 +226,15 @@ fn write_faces(
             )?;
         }
     }
+    write_marked(rt, arguments, solid)
+}
+
+/// Writes what is asked for of a mesh that has noted where its faces begin.
+fn write_marked(
+    rt: &(impl Files + Print + Eprint + AllocGlobal),
+    arguments: &Arguments,
+    solid: &Solid,
+) -> Result<(), Fault> {
     if arguments.output == Output::Mesh(Format::Words) {
         tell_left_out(rt, COORDINATES, solid.mesh.num_vertices())?;
     }

@@ -261,14 +261,20 @@ pub fn fault_of(alloc: Global, reason: FacesError, vertices: usize, surface: &Su
         FacesError::FewCorners(face) => face,
         FacesError::NoVertex(face, _) | FacesError::OneEnd(face, _) => face as usize,
         FacesError::SideTwice(_, face, _, _) => face as usize,
-        FacesError::Borders
-        | FacesError::NotConnected(_)
-        | FacesError::Links(LinksFault::NotSphere(_)) => {
-            return fault_of_whole(alloc, vertices, &surface.faces);
-        }
+        _ if is_of_whole(reason) => return fault_of_whole(alloc, vertices, &surface.faces),
         _ => return Fault::Input(Wrong::text(format!(in alloc; "{reason}"))),
     };
     surface.at_face(alloc, face, Wrong::text(format!(in alloc; "{reason}")))
+}
+
+/// Returns whether only the surface as a whole has a fault: its parts may be meshes.
+pub fn is_of_whole(reason: FacesError) -> bool {
+    match reason {
+        FacesError::Borders
+        | FacesError::NotConnected(_)
+        | FacesError::Links(LinksFault::NotSphere(_)) => true,
+        _ => false,
+    }
 }
 
 /// Tells what a surface as a whole is.

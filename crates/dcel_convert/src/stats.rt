@@ -113,7 +113,7 @@ impl Stats {
 }
 
 /// Lists from where to where the sides of faces lead.
-fn list_sides(faces: &[Vec<u32>], sides: &mut Vec<(u32, u32)>) -> Result<(), AllocError> {
+pub fn list_sides(faces: &[Vec<u32>], sides: &mut Vec<(u32, u32)>) -> Result<(), AllocError> {
     for corners in faces {
         let behind = corners.iter().skip(1).chain(corners.first());
         for (from, to) in corners.iter().zip(behind) {
@@ -183,33 +183,47 @@ fn count_parts(
     vertices: usize,
     sides: &[(u32, u32)],
 ) -> Result<(usize, usize), AllocError> {
-    let mut reached = vec![in alloc; false; vertices]?;
+    let mut part_of = vec![in alloc; None; vertices]?;
+    number_parts(alloc, sides, &mut part_of)
+}
+
+/// Notes of each vertex that sides, in order, start at, in which part these connect it to others,
+/// and counts the vertices and the parts. Parts are numbered in the order of their least vertices.
+pub fn number_parts(
+    alloc: Global,
+    sides: &[(u32, u32)],
+    part_of: &mut [Option<usize>],
+) -> Result<(usize, usize), AllocError> {
     let (mut used, mut parts): (usize, usize) = (0, 0);
     for (from, _) in sides {
-        if is_reached(&reached, *from) {
+        if is_reached(part_of, *from) {
             continue;
         }
+        used = used.saturating_add(reach(alloc, *from, sides, parts, part_of)?);
         parts = parts.saturating_add(1);
-        used = used.saturating_add(reach(alloc, *from, sides, &mut reached)?);
     }
     Ok((used, parts))
 }
 
-/// Returns whether a vertex is noted as reached; what is no vertex counts as such.
-fn is_reached(reached: &[bool], vertex: u32) -> bool {
-    reached.get(vertex as usize).copied().unwrap_or(true)
+/// Returns whether a vertex has a part; what is no vertex counts as such.
+fn is_reached(part_of: &[Option<usize>], vertex: u32) -> bool {
+    match part_of.get(vertex as usize) {
+        Some(part) => part.is_some(),
+        None => true,
+    }
 }
 
-/// Notes the vertices that sides lead to from this one, and counts them.
+/// Notes a part at the vertices that sides lead to from this one, and counts them.
 fn reach(
     alloc: Global,
     first: u32,
     sides: &[(u32, u32)],
-    reached: &mut [bool],
+    part: usize,
+    part_of: &mut [Option<usize>],
 ) -> Result<usize, AllocError> {
     let mut found = vec![in alloc; first]?;
-    note(first, reached);
-    for place in 0..reached.len() {
+    note(first, part, part_of);
+    for place in 0..part_of.len() {
         let Some(vertex) = found.get(place).copied() else {
             break;
         };
@@ -218,8 +232,8 @@ fn reach(
             if *from != vertex {
                 break;
             }
-            if !is_reached(reached, *to) {
-                note(*to, reached);
+            if !is_reached(part_of, *to) {
+                note(*to, part, part_of);
                 found.push(*to)?;
             }
         }
@@ -227,8 +241,8 @@ fn reach(
     Ok(found.len())
 }
 
-fn note(vertex: u32, reached: &mut [bool]) {
-    if let Some(known) = reached.get_mut(vertex as usize) {
-        *known = true;
+fn note(vertex: u32, part: usize, part_of: &mut [Option<usize>]) {
+    if let Some(known) = part_of.get_mut(vertex as usize) {
+        *known = Some(part);
     }
 }

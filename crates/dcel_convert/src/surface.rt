@@ -46,6 +46,13 @@ impl Surface {
         }
     }
 
+    /// Makes a surface without vertices and faces of the same kind of file.
+    pub fn like(alloc: Global, other: &Surface) -> Self {
+        let mut surface = Surface::new(alloc);
+        surface.counted = other.counted;
+        surface
+    }
+
     /// Adds a vertex of this line at three coordinates. What stands behind them, as a weight or a
     /// color, is left out.
     pub fn take_vertex(
