@@ -10,7 +10,7 @@ from delaunay.library import Kept
 from delaunay.plane import Wrong, begun, finds, hull_of, lies_inside, neighbors_of, rounds
 from delaunay.points import LIMIT, somewhere
 
-# Sets of at most so many points lose all. What is left is judged each time where there are no more, and else a few times.
+# Sets of at most so many points lose all. What is left is judged each time where there are no more, and else twice.
 SMALL = 12
 # How many edges of a kind are flipped to plant faults.
 FLIPS = 3
@@ -131,7 +131,7 @@ def check_set(rng, points, gone, joins):
         order = some_order(rng, expected)
         count = len(order)
         most = count if count <= SMALL else rng.choice([1, count // 2, count - rng.randint(1, SMALL), count])
-        judged = {0, rng.randrange(most), most - 1}
+        judged = {rng.randrange(most), most - 1}
         tried = Tried(removed=most, emptied=int(most == count))
         for place, point in enumerate(order[:most]):
             try:
