@@ -33,6 +33,8 @@ pub enum Output {
 pub struct Arguments<'a> {
     /// The file that has the points; if there is none, standard input.
     pub file: Option<&'a str>,
+    /// Which columns are the coordinates of points; if there is nothing, there are two.
+    pub columns: Option<&'a str>,
     /// The file for a picture.
     pub svg: Option<&'a str>,
     /// The file with the numbers of points that are removed.
@@ -59,6 +61,12 @@ pub const PROGRAM: Program<'static, Output> = Program {
     about: "Writes the Delaunay triangulation of points",
     input: "The points; without it, or with -, standard input",
     switches: &[
+        Switch {
+            name: "columns",
+            letter: None,
+            takes: Takes::Text("X,Y"),
+            help: "Takes the coordinates of points from these columns, by number from 1 or by name",
+        },
         Switch {
             name: "remove",
             letter: None,
@@ -164,10 +172,15 @@ const OUTPUTS: &[Choice<'static, Output>] = &[
 ];
 
 const DETAILS: &str = "\
-Each line of the input has the two coordinates of a point, decimals with blanks, a comma or both
-between them. What follows a # is a comment, and lines without a word are skipped, as is a first
-line whose words all begin with a letter. Points are numbered from 0 in the order of the input.
-Equal points are one, with the least of their numbers.
+Each line of the input has the two coordinates of a point, decimals with blanks, a comma or a
+semicolon between them, in quotes or not. What follows a # is a comment, and lines without a word
+are skipped, as is a first line whose columns all begin with a letter, and one of units behind it.
+Points are numbered from 0 in the order of the input. Equal points are one, with the least of their
+numbers.
+
+With --columns X,Y lines may have more columns, with a tab between them, or else a semicolon, a
+comma, or blanks, but for those in quotes. X and Y are numbers from 1, or names in the first line.
+This holds of the file of --nearest, too.
 
 The file of --remove has a number in each line, with comments and empty lines as above. Points keep
 their numbers, and those that are removed belong to no triangle; of equal points one stays as long
@@ -216,6 +229,7 @@ impl<'a> Arguments<'a> {
         };
         Arguments {
             file: given.input(),
+            columns: given.value("columns"),
             svg: given.value("svg"),
             remove: given.value("remove"),
             constraints: given.value("constraints"),

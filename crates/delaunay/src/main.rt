@@ -7,15 +7,19 @@
 
 mod answering;
 mod arguments;
+mod columns;
 mod constraining;
 mod drawn;
 mod fault;
+mod fields;
+mod foreign;
 mod fraction;
 mod joins;
 mod listing;
 mod nearest;
 mod outlining;
 mod picture;
+mod quoting;
 mod reading;
 mod removal;
 mod removing;

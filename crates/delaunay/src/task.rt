@@ -56,10 +56,19 @@ impl Task {
         rt: &(impl Files + Input + Eprint + AllocGlobal),
         arguments: &Arguments,
     ) -> Result<(), Fault> {
-        let coordinates = Coordinates::of(rt.alloc(), &read_text(rt, arguments.file)?)?;
+        let coordinates = Coordinates::of(
+            rt.alloc(),
+            &read_text(rt, arguments.file)?,
+            arguments.columns,
+        )?;
         match arguments.nearest {
             None => self.take(rt, arguments, &coordinates, &Coordinates::none(rt.alloc())),
-            Some(path) => self.take(rt, arguments, &coordinates, &read_coordinates(rt, path)?),
+            Some(path) => self.take(
+                rt,
+                arguments,
+                &coordinates,
+                &read_coordinates(rt, path, arguments.columns)?,
+            ),
         }
     }
 
