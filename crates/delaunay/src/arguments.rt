@@ -2,6 +2,9 @@
 
 ghost use Rattle.std.specs.Prelude.{◌≡◌, None, false};
 
+use crate::fault::Wrong;
+use crate::format::{FORMATS, Format};
+use crate::quoting::Sentence;
 use dcel_decimals::Scale;
 use dcel_programs::{Choice, Given, Program, Switch, Takes};
 
@@ -33,6 +36,8 @@ pub enum Output {
 pub struct Arguments<'a> {
     /// The file that has the points; if there is none, standard input.
     pub file: Option<&'a str>,
+    /// The format of that file.
+    pub format: Format,
     /// Which columns are the coordinates of points; if there is nothing, there are two.
     pub columns: Option<&'a str>,
     /// The file for a picture.
@@ -61,6 +66,12 @@ pub const PROGRAM: Program<'static, Output> = Program {
     about: "Writes the Delaunay triangulation of points",
     input: "The points; without it, or with -, standard input",
     switches: &[
+        Switch {
+            name: "format",
+            letter: None,
+            takes: Takes::Format(FORMATS),
+            help: "Reads the points in this format, whatever the file's name",
+        },
         Switch {
             name: "columns",
             letter: None,
@@ -182,6 +193,11 @@ With --columns X,Y lines may have more columns, with a tab between them, or else
 comma, or blanks, but for those in quotes. X and Y are numbers from 1, or names in the first line.
 This holds of the file of --nearest, too.
 
+Files named .node and .poly have the formats of the program Triangle, as --format says of others.
+Attributes and markers aren't read. Their points may be numbered from 1: all other numbers are from
+0. The segments of a .poly are constraints, or an outline if --outline names that file, and then
+curves inside others are its holes. --constraints and --outline take those of another .poly, too.
+
 The file of --remove has a number in each line, with comments and empty lines as above. Points keep
 their numbers, and those that are removed belong to no triangle; of equal points one stays as long
 as one of them isn't removed. The file of --nearest has points as the input has, and what is written
@@ -227,13 +243,19 @@ impl<'a> Arguments<'a> {
             Some(_) => None,
             None => Some(Output::Triangles),
         };
+        let file = given.input();
+        let format = Format::of(given.value("format"), file);
+        let outline = given.value("outline");
         Arguments {
-            file: given.input(),
+            file,
+            format,
             columns: given.value("columns"),
             svg: given.value("svg"),
             remove: given.value("remove"),
-            constraints: given.value("constraints"),
-            outline: given.value("outline"),
+            constraints: given
+                .value("constraints")
+                .or(own_segments(file, format, outline)),
+            outline,
             nearest,
             output: given.choice(OUTPUTS).or(unasked),
             scale: given.value("scale").and_then(scale_of),
@@ -242,11 +264,46 @@ impl<'a> Arguments<'a> {
         }
     }
 
+    /// Returns what is wrong with them, if something is.
+    pub fn check(&self) -> Result<(), Wrong> {
+        let Some(file) = self.file else {
+            return match self.format {
+                Format::Poly => Err(Wrong::quoting(Sentence::ReadTwice, "--format poly")),
+                _ => Ok(()),
+            };
+        };
+        if self.has_constraints() && matches!(self.output, Some(Output::Voronoi)) {
+            return Err(Wrong::quoting(Sentence::Constrained, file));
+        }
+        Ok(())
+    }
+
+    /// Returns the format of a file: that of the points, if it is the same file, or by its name.
+    pub fn format_of(&self, path: &str) -> Format {
+        match self.file {
+            Some(file) if file == path => self.format,
+            _ => Format::of_file(path),
+        }
+    }
+
     /// Returns whether some edges are to stay.
     pub fn has_constraints(&self) -> bool
         ensures { self.now.constraints ≡ None → self.now.outline ≡ None → result ≡ false }
     {
         self.constraints.is_some() || self.outline.is_some()
+    }
+}
+
+/// Returns the file of points, if its own segments are constraints, and not an outline.
+fn own_segments<'a>(
+    file: Option<&'a str>,
+    format: Format,
+    outline: Option<&'a str>,
+) -> Option<&'a str> {
+    if matches!(format, Format::Poly) && outline != file {
+        file
+    } else {
+        None
     }
 }
 

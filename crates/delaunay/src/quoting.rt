@@ -25,6 +25,30 @@ pub enum Sentence {
     NoName,
     /// It has too few columns.
     FewColumns,
+    /// It is the last line, and more have to follow.
+    Ends,
+    /// It says no count.
+    NoCount,
+    /// It says no counts of points in the plane.
+    NoCounts,
+    /// It says that the points are in another file.
+    PointsElsewhere,
+    /// It says another count than that of the points.
+    OtherPoints,
+    /// It is no point of Triangle.
+    NoNode,
+    /// It is no segment of Triangle.
+    NoSegment,
+    /// It is a point out of order.
+    OutOfOrder,
+    /// It is one point too many.
+    MorePoints,
+    /// It says that there are holes.
+    Holes,
+    /// It asks to read standard input twice.
+    ReadTwice,
+    /// It asks for the Voronoi diagram of constraints.
+    Constrained,
 }
 
 impl fmt::Display for Sentence {
@@ -42,6 +66,24 @@ impl fmt::Display for Sentence {
             }
             Sentence::NoName => "there is no column of this name",
             Sentence::FewColumns => "the line has too few columns",
+            Sentence::Ends => "the file ends before all that its counts say",
+            Sentence::NoCount => "a line of Triangle's formats begins with a count here",
+            Sentence::NoCounts => "a .node or .poly begins with a count of points, and then 2",
+            Sentence::PointsElsewhere => {
+                "the points are in a .node, to which this .poly is --constraints or --outline"
+            }
+            Sentence::OtherPoints => "the .poly has another count of points than the input",
+            Sentence::NoNode => "a point of a .node or .poly has a number and two coordinates",
+            Sentence::NoSegment => "a segment of a .poly has a number and those of two points",
+            Sentence::OutOfOrder => {
+                "points of a .node or .poly are numbered in their order, from 0 or 1"
+            }
+            Sentence::MorePoints => "the .node has more points than its count says",
+            Sentence::Holes => {
+                "there are holes, which only --outline takes, as curves inside others"
+            }
+            Sentence::ReadTwice => "a .poly is read twice, and needs a file",
+            Sentence::Constrained => "--voronoi takes no segments",
         })
     }
 }

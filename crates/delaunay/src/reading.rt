@@ -3,6 +3,8 @@
 use crate::columns::{Columns, Head};
 use crate::fault::{Fault, Wrong};
 use crate::fields::{uncommented, unquoted};
+use crate::format::Format;
+use crate::triangle::read_points;
 use crate::unit::{Moves, scaled_point};
 use dcel_decimals::{Decimal, Grid, Scale};
 use dcel_delaunay::Point;
@@ -15,12 +17,28 @@ use std::rt::Files;
 pub struct Coordinates {
     all: Vec<Decimal>,
     lines: Vec<usize>,
+    /// The number that the file gives the first point.
+    pub first: usize,
 }
 
 impl Coordinates {
+    /// Reads those of a file in this format, from the columns that are asked for.
+    pub fn of(
+        alloc: Global,
+        text: &str,
+        format: Format,
+        asked: Option<&str>,
+    ) -> Result<Self, Fault> {
+        match format {
+            Format::Lines => Coordinates::of_lines(alloc, text, asked),
+            Format::Node => read_points(alloc, text, false),
+            Format::Poly => read_points(alloc, text, true),
+        }
+    }
+
     /// Reads those of all lines, from the columns that are asked for, or from two. The first line
     /// with words may have names of columns, and the next one units.
-    pub fn of(alloc: Global, text: &str, asked: Option<&str>) -> Result<Self, Fault> {
+    fn of_lines(alloc: Global, text: &str, asked: Option<&str>) -> Result<Self, Fault> {
         let columns = Columns::of(text, asked)?;
         let mut coordinates = Coordinates::none(alloc);
         coordinates.read_lines(text, columns)?;
@@ -59,11 +77,12 @@ impl Coordinates {
         Coordinates {
             all: Vec::new(alloc),
             lines: Vec::new(alloc),
+            first: 0,
         }
     }
 
     /// Adds a point.
-    fn add(&mut self, line: usize, two: [Decimal; 2]) -> Result<(), AllocError> {
+    pub fn add(&mut self, line: usize, two: [Decimal; 2]) -> Result<(), AllocError> {
         self.lines.push(line)?;
         self.all.extend_from_slice(&two)
     }
@@ -137,7 +156,8 @@ pub fn read_coordinates(
     columns: Option<&str>,
 ) -> Result<Coordinates, Fault> {
     let text = read_text(rt, Some(path))?;
-    Coordinates::of(rt.alloc(), &text, columns).map_err(|fault| in_file(
+    let format = Format::of_file(path);
+    Coordinates::of(rt.alloc(), &text, format, columns).map_err(|fault| in_file(
         rt.alloc(),
         Some(path),
         fault,

@@ -3,6 +3,7 @@
 use crate::arguments::Arguments;
 use crate::fault::{Fault, Wrong};
 use crate::joins::{Form, Join, read_joins};
+use crate::numbering::Numbering;
 use crate::reading::{Coordinates, in_file, read_coordinates};
 use crate::removal::read_marks;
 use crate::unit::{Moves, Unit};
@@ -38,6 +39,9 @@ impl Task {
         rt: &(impl Files + Input + Eprint + AllocGlobal),
         arguments: &Arguments,
     ) -> Result<Self, Fault> {
+        if let Err(wrong) = arguments.check() {
+            return Err(Fault::Input(wrong));
+        }
         let alloc = rt.alloc();
         let mut task = Task {
             points: Vec::new(alloc),
@@ -59,6 +63,7 @@ impl Task {
         let coordinates = Coordinates::of(
             rt.alloc(),
             &read_text(rt, arguments.file)?,
+            arguments.format,
             arguments.columns,
         )?;
         match arguments.nearest {
@@ -81,13 +86,14 @@ impl Task {
         coordinates: &Coordinates,
         asked: &Coordinates,
     ) -> Result<(), Fault> {
+        report_first(rt, coordinates.first)?;
         self.unit = unit_of(rt, arguments, coordinates, asked)?;
         let mut moves = Moves::NONE;
         self.points = points_of(rt.alloc(), coordinates, self.unit, &mut moves)?;
         if let Unit::Grid(grid) = self.unit {
             self.report_moves(rt, grid, moves, coordinates)?;
         }
-        self.read_numbers(rt, arguments)?;
+        self.read_numbers(rt, arguments, coordinates.first)?;
         self.places = points_of(rt.alloc(), asked, self.unit, &mut moves).map_err(|fault| in_file(
             rt.alloc(),
             arguments.nearest,
@@ -121,16 +127,20 @@ impl Task {
         &mut self,
         rt: &(impl Files + Input + AllocGlobal),
         arguments: &Arguments,
+        first: usize,
     ) -> Result<(), Fault> {
         let count = self.points.len();
+        let numbering = Numbering { count, first };
         if let Some(path) = arguments.remove {
             self.is_removed = read_marks(rt, path, count)?;
         }
         if let Some(path) = arguments.constraints {
-            self.constraints = read_joins(rt, path, Form::Pairs, count)?;
+            let format = arguments.format_of(path);
+            self.constraints = read_joins(rt, path, format, Form::Pairs, numbering)?;
         }
         if let Some(path) = arguments.outline {
-            self.outline = read_joins(rt, path, Form::Curves, count)?;
+            let format = arguments.format_of(path);
+            self.outline = read_joins(rt, path, format, Form::Curves, numbering)?;
         }
         Ok(())
     }
@@ -156,6 +166,14 @@ fn unit_of(
             Ok(Unit::Scale(least))
         }
     }
+}
+
+/// Says on standard error that a file numbers its points from 1, if it does.
+fn report_first(rt: &impl Eprint, first: usize) -> io::Result<()> {
+    if first > 0 {
+        eprintln!(rt; "delaunay: the file numbers its points from 1, and all else here from 0")?;
+    }
+    Ok(())
 }
 
 /// Says on standard error which scale it is, unless it is 1.

@@ -12,7 +12,7 @@ from delaunay.plane import Wrong, finds
 
 SECONDS = 60
 # What may stand on standard error if a file is taken.
-NOTES = ("delaunay: the scale is ",)
+NOTES = ("delaunay: the scale is ", "delaunay: the file numbers its points from 1")
 # Pieces that are put into files.
 PIECES = [b'"', b";", b",", b"\t", b" ", b"\n", b"#", b"\0", b"-", b"nan", b"1e400", b"1e-19", b"99999999999999999999", b"{", b"(", b"\xff", b"\r\n", b"-1", b"0"]
 # How many lines the shorter one of two files has whose times are compared, how much longer the other one is, and how much longer it may take.
@@ -53,7 +53,26 @@ def separated(rng):
     return {"a.txt": "".join(";".join(quoted(rng, it) for it in row) + "\n" for row in rows)}, ["a.txt"]
 
 
-FORMATS = [columns, separated]
+def node_rows(rng, points, first):
+    return "".join(f"{first + number} {x} {y} {rng.randint(0, 9)} 1\n" for number, (x, y) in enumerate(points))
+
+
+def node(rng):
+    """A .node."""
+    points, first = places(rng), rng.randint(0, 1)
+    return {"a.node": f"{len(points)} 2 1 1\n" + node_rows(rng, points, first)}, ["a.node"]
+
+
+def poly(rng):
+    """A .poly, whose segments are a fan or a triangle."""
+    points, first = sorted(set(places(rng)) | {(0, 0), (9, 0), (0, 9)}), rng.randint(0, 1)
+    segments = [(0, 1), (1, 2), (2, 0)]
+    rows = "".join(f"{number} {first + a} {first + b} 1\n" for number, (a, b) in enumerate(segments))
+    text = f"{len(points)} 2 1 1\n{node_rows(rng, points, first)}{len(segments)} 1\n{rows}0\n"
+    return {"a.poly": text}, rng.choice([["a.poly"], ["a.poly", "--outline", "a.poly"]])
+
+
+FORMATS = [columns, separated, node, poly]
 
 
 def mutated(rng, content):
@@ -124,6 +143,8 @@ def check_linear():
         "many lines": lambda n: ("name,lon,lat\n" + '"a, b",1,2\n' * n + "c\n", ["--columns", "lon,lat", "a.csv"]),
         "many columns": lambda n: ("p," * n + "x,y\n" + "1," * n + "1\n", ["--columns", "x,y", "a.csv"]),
         "long comments": lambda n: ("1 2 # " + '"#' * n + "\nx\n", ["a.txt"]),
+        "points": lambda n: (f"{n} 2\n" + "".join(f"{it} 1 2\n" for it in range(n)) + "x\n", ["a.node"]),
+        "segments": lambda n: (f"2 2\n0 0 0\n1 1 1\n{n + 1}\n" + "0 0 1\n" * n + "x\n", ["a.poly"]),
     }
     for kind, make in kinds.items():
         short, long = min(seconds(*make(LINES)) for _ in range(3)), seconds(*make(LINES * LONGER))
