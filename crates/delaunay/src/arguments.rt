@@ -50,6 +50,8 @@ pub struct Arguments<'a> {
     pub outline: Option<&'a str>,
     /// The file with the points to which the nearest one is asked for.
     pub nearest: Option<&'a str>,
+    /// The file with the points of which the places in the triangulation are asked for.
+    pub locate: Option<&'a str>,
     /// What to write.
     pub output: Option<Output>,
     /// What coordinates are multiplied by; if there is none, the least that makes them whole.
@@ -103,6 +105,12 @@ pub const PROGRAM: Program<'static, Output> = Program {
             help: "Writes for each point of this file the number of a nearest one, -1 if there is none",
         },
         Switch {
+            name: "locate",
+            letter: None,
+            takes: Takes::File,
+            help: "Writes for each point of this file in which triangle it is, on an edge or outside",
+        },
+        Switch {
             name: "svg",
             letter: None,
             takes: Takes::File,
@@ -131,53 +139,56 @@ pub const PROGRAM: Program<'static, Output> = Program {
     details: DETAILS,
 };
 
+/// What no other output can stand beside.
+const LOCATED: &[&str] = &["locate"];
+
 const OUTPUTS: &[Choice<'static, Output>] = &[
     Choice {
         name: "edges",
         means: Output::Edges,
-        excludes: &[],
+        excludes: LOCATED,
         help: "Writes the edges in place of the triangles",
     },
     Choice {
         name: "hull",
         means: Output::Hull,
-        excludes: &[],
+        excludes: LOCATED,
         help: "Writes the points of the hull, counterclockwise; along a line, there and back",
     },
     Choice {
         name: "stats",
         means: Output::Stats,
-        excludes: &[],
+        excludes: LOCATED,
         help: "Writes how many points, edges and triangles there are",
     },
     Choice {
         name: "neighbors",
         means: Output::Neighbors,
-        excludes: &[],
+        excludes: LOCATED,
         help: "Writes for each triangle the ones across from its corners, -1 for none",
     },
     Choice {
         name: "off",
         means: Output::Off,
-        excludes: &[],
+        excludes: LOCATED,
         help: "Writes the points and triangles as OFF, equal points too",
     },
     Choice {
         name: "obj",
         means: Output::Obj,
-        excludes: &[],
+        excludes: LOCATED,
         help: "Writes them as OBJ, which counts from 1",
     },
     Choice {
         name: "words",
         means: Output::Words,
-        excludes: &["outline"],
+        excludes: &["outline", "locate"],
         help: "Writes the half edges round each triangle and out of each point",
     },
     Choice {
         name: "voronoi",
         means: Output::Voronoi,
-        excludes: &["constraints", "outline"],
+        excludes: &["constraints", "outline", "locate"],
         help: "Writes the corners and edges of the Voronoi diagram",
     },
 ];
@@ -191,7 +202,7 @@ numbers.
 
 With --columns X,Y lines may have more columns, with a tab between them, or else a semicolon, a
 comma, or blanks, but for those in quotes. X and Y are numbers from 1, or names in the first line.
-This holds of the file of --nearest, too.
+This holds of the files of --nearest and --locate, too.
 
 Files named .node and .poly have the formats of the program Triangle, as --format says of others.
 Attributes and markers aren't read. Their points may be numbered from 1: all other numbers are from
@@ -202,6 +213,11 @@ The file of --remove has a number in each line, with comments and empty lines as
 their numbers, and those that are removed belong to no triangle; of equal points one stays as long
 as one of them isn't removed. The file of --nearest has points as the input has, and what is written
 of them stands in place of the triangles, or below what another option writes.
+
+The file of --locate has points, too. For each it writes 'OnFace N', the number of its triangle,
+'OnEdge A B' and 'OnVertex A', the numbers of points, 'OutsideOfConvexHull A B' for a place on the
+left of the way from A to B along the hull, 'BeyondLine A' where all points are on one line and A is
+the end of them before the place, or 'NoTriangulation'. It stands alone.
 
 The file of --constraints has two numbers in each line, with blanks, a comma or both between them,
 and comments and empty lines as above. The segment between these two points becomes an edge that
@@ -239,7 +255,8 @@ impl<'a> Arguments<'a> {
     /// Returns what the words say.
     pub fn of(given: &Given<'a>) -> Self {
         let nearest = given.value("nearest");
-        let unasked = match nearest {
+        let locate = given.value("locate");
+        let unasked = match nearest.or(locate) {
             Some(_) => None,
             None => Some(Output::Triangles),
         };
@@ -257,6 +274,7 @@ impl<'a> Arguments<'a> {
                 .or(own_segments(file, format, outline)),
             outline,
             nearest,
+            locate,
             output: given.choice(OUTPUTS).or(unasked),
             scale: given.value("scale").and_then(scale_of),
             is_on_grid: given.has("grid"),
@@ -266,16 +284,26 @@ impl<'a> Arguments<'a> {
 
     /// Returns what is wrong with them, if something is.
     pub fn check(&self) -> Result<(), Wrong> {
-        let Some(file) = self.file else {
-            return match self.format {
-                Format::Poly => Err(Wrong::quoting(Sentence::ReadTwice, "--format poly")),
-                _ => Ok(()),
-            };
-        };
-        if self.has_constraints() && matches!(self.output, Some(Output::Voronoi)) {
-            return Err(Wrong::quoting(Sentence::Constrained, file));
+        if let Some(path) = self.locate.filter(|_| self.asks_for_more()) {
+            return Err(Wrong::quoting(Sentence::LocatesAlone, path));
         }
-        Ok(())
+        match (self.file, self.format, self.output) {
+            (None, Format::Poly, _) => Err(Wrong::quoting(Sentence::ReadTwice, "--format poly")),
+            (Some(file), _, Some(Output::Voronoi)) if self.has_constraints() => {
+                Err(Wrong::quoting(Sentence::Constrained, file))
+            }
+            _ => Ok(()),
+        }
+    }
+
+    /// Returns whether something is asked for that can't stand beside places.
+    fn asks_for_more(&self) -> bool {
+        self.nearest.is_some() || self.svg.is_some() || self.has_constraints()
+    }
+
+    /// Returns the file with points that are looked for, if there is one.
+    pub fn places(&self) -> Option<&'a str> {
+        self.nearest.or(self.locate)
     }
 
     /// Returns the format of a file: that of the points, if it is the same file, or by its name.

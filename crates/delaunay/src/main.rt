@@ -17,6 +17,7 @@ mod format;
 mod fraction;
 mod joins;
 mod listing;
+mod locating;
 mod nearest;
 mod numbering;
 mod outlining;
@@ -39,6 +40,7 @@ mod writing;
 use crate::answering::answer;
 use crate::arguments::{Arguments, PROGRAM};
 use crate::fault::Fault;
+use crate::locating::locate;
 use crate::task::Task;
 use dcel_programs::{Progress, run};
 use std::io::{self, BufWriter, Write};
@@ -73,7 +75,10 @@ fn write_answer(
     arguments: &Arguments,
     task: &Task,
 ) -> Result<(), Fault> {
-    answer(rt, writer, progress, arguments, task)?;
+    match arguments.locate {
+        None => answer(rt, writer, progress, arguments, task)?,
+        Some(_) => locate(rt, writer, progress, arguments, task)?,
+    }
     match writer.flush() {
         Ok(()) => Ok(()),
         Err(error) => Err(Fault::Output(error)),

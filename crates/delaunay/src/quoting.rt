@@ -47,6 +47,8 @@ pub enum Sentence {
     Holes,
     /// It asks to read standard input twice.
     ReadTwice,
+    /// It asks for places beside something else.
+    LocatesAlone,
     /// It asks for the Voronoi diagram of constraints.
     Constrained,
 }
@@ -83,6 +85,9 @@ impl fmt::Display for Sentence {
                 "there are holes, which only --outline takes, as curves inside others"
             }
             Sentence::ReadTwice => "a .poly is read twice, and needs a file",
+            Sentence::LocatesAlone => {
+                "--locate stands without --nearest, --svg, constraints and outlines"
+            }
             Sentence::Constrained => "--voronoi takes no segments",
         })
     }

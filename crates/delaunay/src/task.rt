@@ -25,7 +25,7 @@ pub struct Task {
     pub constraints: Vec<Join>,
     /// Which of them are joined by the curves of an outline.
     pub outline: Vec<Join>,
-    /// The points to which the nearest one is asked for.
+    /// The points to which the nearest one is asked for, or that are located.
     pub places: Vec<Point>,
     /// What all coordinates stand for.
     pub unit: Unit,
@@ -66,7 +66,7 @@ impl Task {
             arguments.format,
             arguments.columns,
         )?;
-        match arguments.nearest {
+        match arguments.places() {
             None => self.take(rt, arguments, &coordinates, &Coordinates::none(rt.alloc())),
             Some(path) => self.take(
                 rt,
@@ -96,7 +96,7 @@ impl Task {
         self.read_numbers(rt, arguments, coordinates.first)?;
         self.places = points_of(rt.alloc(), asked, self.unit, &mut moves).map_err(|fault| in_file(
             rt.alloc(),
-            arguments.nearest,
+            arguments.places(),
             fault,
         ))?;
         Ok(())
@@ -160,7 +160,7 @@ fn unit_of(
         (false, None) => {
             let scale = asked
                 .scale()
-                .map_err(|fault| in_file(rt.alloc(), arguments.nearest, fault));
+                .map_err(|fault| in_file(rt.alloc(), arguments.places(), fault));
             let least = greater(coordinates.scale()?, scale?);
             report_scale(rt, least)?;
             Ok(Unit::Scale(least))

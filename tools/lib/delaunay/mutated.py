@@ -72,7 +72,13 @@ def poly(rng):
     return {"a.poly": text}, rng.choice([["a.poly"], ["a.poly", "--outline", "a.poly"]])
 
 
-FORMATS = [columns, separated, node, poly]
+def located(rng):
+    """Places that are looked for."""
+    lines = ["".join(f"{x} {y}\n" for x, y in places(rng)) for _ in range(2)]
+    return {"a.txt": lines[0], "b.txt": lines[1]}, ["a.txt", "--locate", "b.txt"]
+
+
+FORMATS = [columns, separated, node, poly, located]
 
 
 def mutated(rng, content):
