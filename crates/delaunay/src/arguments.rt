@@ -52,6 +52,8 @@ pub struct Arguments<'a> {
     pub nearest: Option<&'a str>,
     /// The file with the points of which the places in the triangulation are asked for.
     pub locate: Option<&'a str>,
+    /// Files for the outputs of `FILES`, each at its place.
+    pub files: [Option<&'a str>; FILE_COUNT],
     /// What to write.
     pub output: Option<Output>,
     /// What coordinates are multiplied by; if there is none, the least that makes them whole.
@@ -117,6 +119,48 @@ pub const PROGRAM: Program<'static, Output> = Program {
             help: "Draws a picture into this file, too",
         },
         Switch {
+            name: "triangles-to",
+            letter: None,
+            takes: Takes::File,
+            help: "Writes the triangles into this file",
+        },
+        Switch {
+            name: "edges-to",
+            letter: None,
+            takes: Takes::File,
+            help: "Writes the edges into this file",
+        },
+        Switch {
+            name: "hull-to",
+            letter: None,
+            takes: Takes::File,
+            help: "Writes the points of the hull into this file",
+        },
+        Switch {
+            name: "stats-to",
+            letter: None,
+            takes: Takes::File,
+            help: "Writes the counts into this file",
+        },
+        Switch {
+            name: "neighbors-to",
+            letter: None,
+            takes: Takes::File,
+            help: "Writes what --neighbors writes into this file",
+        },
+        Switch {
+            name: "off-to",
+            letter: None,
+            takes: Takes::File,
+            help: "Writes what --off writes into this file",
+        },
+        Switch {
+            name: "obj-to",
+            letter: None,
+            takes: Takes::File,
+            help: "Writes what --obj writes into this file",
+        },
+        Switch {
             name: "scale",
             letter: None,
             takes: Takes::PowerOfTen,
@@ -139,44 +183,67 @@ pub const PROGRAM: Program<'static, Output> = Program {
     details: DETAILS,
 };
 
-/// What no other output can stand beside.
-const LOCATED: &[&str] = &["locate"];
+/// How many outputs are written into files.
+pub const FILE_COUNT: usize = 7;
+
+/// The options that write outputs into files.
+pub const FILES: [(&str, Output); FILE_COUNT] = [
+    ("triangles-to", Output::Triangles),
+    ("edges-to", Output::Edges),
+    ("hull-to", Output::Hull),
+    ("stats-to", Output::Stats),
+    ("neighbors-to", Output::Neighbors),
+    ("off-to", Output::Off),
+    ("obj-to", Output::Obj),
+];
+
+/// What no output to standard output can stand beside.
+const ALONE: &[&str] = &[
+    "locate",
+    "triangles-to",
+    "edges-to",
+    "hull-to",
+    "stats-to",
+    "neighbors-to",
+    "off-to",
+    "obj-to",
+];
 
 const OUTPUTS: &[Choice<'static, Output>] = &[
     Choice {
         name: "edges",
         means: Output::Edges,
-        excludes: LOCATED,
+        excludes: ALONE,
         help: "Writes the edges in place of the triangles",
     },
     Choice {
         name: "hull",
         means: Output::Hull,
-        excludes: LOCATED,
+        excludes: ALONE,
         help: "Writes the points of the hull, counterclockwise; along a line, there and back",
     },
     Choice {
         name: "stats",
         means: Output::Stats,
-        excludes: LOCATED,
+        excludes: ALONE,
         help: "Writes how many points, edges and triangles there are",
     },
     Choice {
         name: "neighbors",
         means: Output::Neighbors,
-        excludes: LOCATED,
+        excludes: ALONE,
         help: "Writes for each triangle the ones across from its corners, -1 for none",
     },
     Choice {
         name: "off",
         means: Output::Off,
-        excludes: LOCATED,
+        excludes: ALONE,
         help: "Writes the points and triangles as OFF, equal points too",
     },
     Choice {
         name: "obj",
         means: Output::Obj,
-        excludes: LOCATED,
+        excludes: ALONE,
         help: "Writes them as OBJ, which counts from 1",
     },
     Choice {
@@ -232,6 +299,9 @@ times, so a curve inside another one is a hole. --edges, --stats and --neighbors
 triangles alone then, while --hull and --nearest take all points. --words can't stand beside
 --outline, nor --voronoi beside --outline or --constraints.
 
+--triangles-to, --edges-to and their like write outputs into files, several in one run, and then
+none goes to standard output but that of --nearest. No file is written before all are computed.
+
 Points are removed first, then constraints are put in, and then outlines. A picture has the edges
 that stay wide, in place of the hull.
 
@@ -256,9 +326,12 @@ impl<'a> Arguments<'a> {
     pub fn of(given: &Given<'a>) -> Self {
         let nearest = given.value("nearest");
         let locate = given.value("locate");
-        let unasked = match nearest.or(locate) {
-            Some(_) => None,
-            None => Some(Output::Triangles),
+        let files = FILES.map(|row| given.value(row.0));
+        let is_asked = nearest.is_some() || locate.is_some() || has_some(&files);
+        let unasked = if is_asked {
+            None
+        } else {
+            Some(Output::Triangles)
         };
         let file = given.input();
         let format = Format::of(given.value("format"), file);
@@ -275,6 +348,7 @@ impl<'a> Arguments<'a> {
             outline,
             nearest,
             locate,
+            files,
             output: given.choice(OUTPUTS).or(unasked),
             scale: given.value("scale").and_then(scale_of),
             is_on_grid: given.has("grid"),
@@ -298,7 +372,10 @@ impl<'a> Arguments<'a> {
 
     /// Returns whether something is asked for that can't stand beside places.
     fn asks_for_more(&self) -> bool {
-        self.nearest.is_some() || self.svg.is_some() || self.has_constraints()
+        self.nearest.is_some()
+            || self.svg.is_some()
+            || self.has_constraints()
+            || has_some(&self.files)
     }
 
     /// Returns the file with points that are looked for, if there is one.
@@ -320,6 +397,11 @@ impl<'a> Arguments<'a> {
     {
         self.constraints.is_some() || self.outline.is_some()
     }
+}
+
+/// Returns whether a file is asked for.
+fn has_some(files: &[Option<&str>]) -> bool {
+    files.iter().any(|file| file.is_some())
 }
 
 /// Returns the file of points, if its own segments are constraints, and not an outline.

@@ -26,6 +26,7 @@ mod quoting;
 mod reading;
 mod removal;
 mod removing;
+mod saving;
 mod segments;
 mod task;
 mod timing;

@@ -78,7 +78,13 @@ def located(rng):
     return {"a.txt": lines[0], "b.txt": lines[1]}, ["a.txt", "--locate", "b.txt"]
 
 
-FORMATS = [columns, separated, node, poly, located]
+def saved(rng):
+    """Outputs in several files."""
+    files, words = columns(rng)
+    return files, [*words, "--triangles-to", "made.triangles", "--hull-to", "made.hull"]
+
+
+FORMATS = [columns, separated, node, poly, located, saved]
 
 
 def mutated(rng, content):
