@@ -45,6 +45,9 @@ pub enum Wrong {
     /// A line has no number of a point.
     #[error("there is no point of this number")]
     NoPoint,
+    /// It has a number that no point has.
+    #[error("there is no point {0} in the points' file, which has {1}, numbered from {2}")]
+    FarNumber(usize, usize, usize),
     /// A line of constraints hasn't two numbers.
     #[error("a constraint has the numbers of two points")]
     NoPair,

@@ -96,12 +96,7 @@ fn join_of(from: usize, to: usize, line: usize) -> Result<Join, Fault> {
 
 /// Returns the number of one of so many points that a word says, or what is wrong with it.
 fn point(word: &str, none: Wrong, count: usize) -> Result<usize, Wrong> {
-    let number = number_of(word).ok_or(none)?;
-    if number < count {
-        Ok(number)
-    } else {
-        Err(Wrong::NoPoint)
-    }
+    Numbering::plain(count).place(number_of(word).ok_or(none)?)
 }
 
 /// Returns the points of a closed curve, with blanks, commas or both between them.
