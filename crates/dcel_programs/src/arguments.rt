@@ -44,6 +44,8 @@ pub enum Takes<'a> {
     Nothing,
     /// A file.
     File,
+    /// Any text, by this name in the help.
+    Text(&'a str),
     /// One of these names of formats.
     Format(&'a [&'a str]),
     /// A power of ten, from 1 to 10^18.
@@ -133,6 +135,7 @@ fn with_values<'a>(arg: Arg<'a>, takes: Takes<'a>) -> Arg<'a> {
     match takes {
         Takes::Nothing => arg.action(ArgAction::SetTrue),
         Takes::File => arg.value_name("FILE"),
+        Takes::Text(name) => arg.value_name(name),
         Takes::Format(names) => arg
             .value_name("FORMAT")
             .value_parser(ValueParser::Names(names)),

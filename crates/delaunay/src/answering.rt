@@ -12,14 +12,14 @@ use crate::constraining::Constrained;
 use crate::drawn::Drawn;
 use crate::fault::Fault;
 use crate::nearest::find_nearest;
-use crate::picture::Svg;
+use crate::saving::save;
 use crate::task::Task;
 use crate::timing::tell_time;
 use crate::triangulating::triangulate;
 use crate::view::View;
 use crate::writing::write_all;
 use dcel_output::laws::{nearest_numbers_are_nearest, numbered_triangles_are_delaunay};
-use dcel_programs::{Progress, write_out};
+use dcel_programs::Progress;
 use std::io::Write;
 use std::rt::{Clock, Files};
 use std::time::Instant;
@@ -114,9 +114,7 @@ fn write_drawn<W: Write, UE>(
         (lines_of triangle_line (triangles_numbered view.now.mesh.now view.now.numbers.now) ++ lines_of nearest_line nearest.now)) }
     ensures nearest { OnOk result (arguments.now.output ≡ None → Appends (W.contents writer.old) (W.contents writer.new) (lines_of nearest_line nearest.now)) }
 {
-    if let Some(path) = arguments.svg {
-        write_out(rt, Some(path), &Svg { view: &*view })?;
-    }
+    save(rt, arguments, view)?;
     match write_all(rt.alloc(), writer, arguments.output, view, nearest) {
         Ok(()) => Ok(()),
         Err(error) => Err(Fault::Output(error)),

@@ -2,6 +2,9 @@
 
 ghost use Rattle.std.specs.Prelude.{◌≡◌, None, false};
 
+use crate::fault::Wrong;
+use crate::format::{FORMATS, Format};
+use crate::quoting::Sentence;
 use dcel_decimals::Scale;
 use dcel_programs::{Choice, Given, Program, Switch, Takes};
 
@@ -33,6 +36,10 @@ pub enum Output {
 pub struct Arguments<'a> {
     /// The file that has the points; if there is none, standard input.
     pub file: Option<&'a str>,
+    /// The format of that file.
+    pub format: Format,
+    /// Which columns are the coordinates of points; if there is nothing, there are two.
+    pub columns: Option<&'a str>,
     /// The file for a picture.
     pub svg: Option<&'a str>,
     /// The file with the numbers of points that are removed.
@@ -43,6 +50,10 @@ pub struct Arguments<'a> {
     pub outline: Option<&'a str>,
     /// The file with the points to which the nearest one is asked for.
     pub nearest: Option<&'a str>,
+    /// The file with the points of which the places in the triangulation are asked for.
+    pub locate: Option<&'a str>,
+    /// Files for the outputs of `FILES`, each at its place.
+    pub files: [Option<&'a str>; FILE_COUNT],
     /// What to write.
     pub output: Option<Output>,
     /// What coordinates are multiplied by; if there is none, the least that makes them whole.
@@ -59,6 +70,18 @@ pub const PROGRAM: Program<'static, Output> = Program {
     about: "Writes the Delaunay triangulation of points",
     input: "The points; without it, or with -, standard input",
     switches: &[
+        Switch {
+            name: "format",
+            letter: None,
+            takes: Takes::Format(FORMATS),
+            help: "Reads the points in this format, whatever the file's name",
+        },
+        Switch {
+            name: "columns",
+            letter: None,
+            takes: Takes::Text("X,Y"),
+            help: "Takes the coordinates of points from these columns, by number from 1 or by name",
+        },
         Switch {
             name: "remove",
             letter: None,
@@ -84,10 +107,58 @@ pub const PROGRAM: Program<'static, Output> = Program {
             help: "Writes for each point of this file the number of a nearest one, -1 if there is none",
         },
         Switch {
+            name: "locate",
+            letter: None,
+            takes: Takes::File,
+            help: "Writes for each point of this file in which triangle it is, on an edge or outside",
+        },
+        Switch {
             name: "svg",
             letter: None,
             takes: Takes::File,
             help: "Draws a picture into this file, too",
+        },
+        Switch {
+            name: "triangles-to",
+            letter: None,
+            takes: Takes::File,
+            help: "Writes the triangles into this file",
+        },
+        Switch {
+            name: "edges-to",
+            letter: None,
+            takes: Takes::File,
+            help: "Writes the edges into this file",
+        },
+        Switch {
+            name: "hull-to",
+            letter: None,
+            takes: Takes::File,
+            help: "Writes the points of the hull into this file",
+        },
+        Switch {
+            name: "stats-to",
+            letter: None,
+            takes: Takes::File,
+            help: "Writes the counts into this file",
+        },
+        Switch {
+            name: "neighbors-to",
+            letter: None,
+            takes: Takes::File,
+            help: "Writes what --neighbors writes into this file",
+        },
+        Switch {
+            name: "off-to",
+            letter: None,
+            takes: Takes::File,
+            help: "Writes what --off writes into this file",
+        },
+        Switch {
+            name: "obj-to",
+            letter: None,
+            takes: Takes::File,
+            help: "Writes what --obj writes into this file",
         },
         Switch {
             name: "scale",
@@ -112,67 +183,108 @@ pub const PROGRAM: Program<'static, Output> = Program {
     details: DETAILS,
 };
 
+/// How many outputs are written into files.
+pub const FILE_COUNT: usize = 7;
+
+/// The options that write outputs into files.
+pub const FILES: [(&str, Output); FILE_COUNT] = [
+    ("triangles-to", Output::Triangles),
+    ("edges-to", Output::Edges),
+    ("hull-to", Output::Hull),
+    ("stats-to", Output::Stats),
+    ("neighbors-to", Output::Neighbors),
+    ("off-to", Output::Off),
+    ("obj-to", Output::Obj),
+];
+
+/// What no output to standard output can stand beside.
+const ALONE: &[&str] = &[
+    "locate",
+    "triangles-to",
+    "edges-to",
+    "hull-to",
+    "stats-to",
+    "neighbors-to",
+    "off-to",
+    "obj-to",
+];
+
 const OUTPUTS: &[Choice<'static, Output>] = &[
     Choice {
         name: "edges",
         means: Output::Edges,
-        excludes: &[],
+        excludes: ALONE,
         help: "Writes the edges in place of the triangles",
     },
     Choice {
         name: "hull",
         means: Output::Hull,
-        excludes: &[],
+        excludes: ALONE,
         help: "Writes the points of the hull, counterclockwise; along a line, there and back",
     },
     Choice {
         name: "stats",
         means: Output::Stats,
-        excludes: &[],
+        excludes: ALONE,
         help: "Writes how many points, edges and triangles there are",
     },
     Choice {
         name: "neighbors",
         means: Output::Neighbors,
-        excludes: &[],
+        excludes: ALONE,
         help: "Writes for each triangle the ones across from its corners, -1 for none",
     },
     Choice {
         name: "off",
         means: Output::Off,
-        excludes: &[],
+        excludes: ALONE,
         help: "Writes the points and triangles as OFF, equal points too",
     },
     Choice {
         name: "obj",
         means: Output::Obj,
-        excludes: &[],
+        excludes: ALONE,
         help: "Writes them as OBJ, which counts from 1",
     },
     Choice {
         name: "words",
         means: Output::Words,
-        excludes: &["outline"],
+        excludes: &["outline", "locate"],
         help: "Writes the half edges round each triangle and out of each point",
     },
     Choice {
         name: "voronoi",
         means: Output::Voronoi,
-        excludes: &["constraints", "outline"],
+        excludes: &["constraints", "outline", "locate"],
         help: "Writes the corners and edges of the Voronoi diagram",
     },
 ];
 
 const DETAILS: &str = "\
-Each line of the input has the two coordinates of a point, decimals with blanks, a comma or both
-between them. What follows a # is a comment, and lines without a word are skipped, as is a first
-line whose words all begin with a letter. Points are numbered from 0 in the order of the input.
-Equal points are one, with the least of their numbers.
+Each line of the input has the two coordinates of a point, decimals with blanks, a comma or a
+semicolon between them, in quotes or not. What follows a # is a comment, and lines without a word
+are skipped, as is a first line whose columns all begin with a letter, and one of units behind it.
+Points are numbered from 0 in the order of the input. Equal points are one, with the least of their
+numbers.
+
+With --columns X,Y lines may have more columns, with a tab between them, or else a semicolon, a
+comma, or blanks, but for those in quotes. X and Y are numbers from 1, or names in the first line.
+This holds of the files of --nearest and --locate, too.
+
+Files named .node and .poly have the formats of the program Triangle, as --format says of others.
+Attributes and markers aren't read. Their points may be numbered from 1: all other numbers are from
+0. The segments of a .poly are constraints, or an outline if --outline names that file, and then
+curves inside others are its holes. --constraints and --outline take those of another .poly, too.
 
 The file of --remove has a number in each line, with comments and empty lines as above. Points keep
 their numbers, and those that are removed belong to no triangle; of equal points one stays as long
 as one of them isn't removed. The file of --nearest has points as the input has, and what is written
 of them stands in place of the triangles, or below what another option writes.
+
+The file of --locate has points, too. For each it writes 'OnFace N', the number of its triangle,
+'OnEdge A B' and 'OnVertex A', the numbers of points, 'OutsideOfConvexHull A B' for a place on the
+left of the way from A to B along the hull, 'BeyondLine A' where all points are on one line and A is
+the end of them before the place, or 'NoTriangulation'. It stands alone.
 
 The file of --constraints has two numbers in each line, with blanks, a comma or both between them,
 and comments and empty lines as above. The segment between these two points becomes an edge that
@@ -186,6 +298,9 @@ to the first. Triangles are written to which a way from outside crosses sides an
 times, so a curve inside another one is a hole. --edges, --stats and --neighbors know these
 triangles alone then, while --hull and --nearest take all points. --words can't stand beside
 --outline, nor --voronoi beside --outline or --constraints.
+
+--triangles-to, --edges-to and their like write outputs into files, several in one run, and then
+none goes to standard output but that of --nearest. No file is written before all are computed.
 
 Points are removed first, then constraints are put in, and then outlines. A picture has the edges
 that stay wide, in place of the hull.
@@ -210,21 +325,69 @@ impl<'a> Arguments<'a> {
     /// Returns what the words say.
     pub fn of(given: &Given<'a>) -> Self {
         let nearest = given.value("nearest");
-        let unasked = match nearest {
-            Some(_) => None,
-            None => Some(Output::Triangles),
+        let locate = given.value("locate");
+        let files = FILES.map(|row| given.value(row.0));
+        let is_asked = nearest.is_some() || locate.is_some() || has_some(&files);
+        let unasked = if is_asked {
+            None
+        } else {
+            Some(Output::Triangles)
         };
+        let file = given.input();
+        let format = Format::of(given.value("format"), file);
+        let outline = given.value("outline");
         Arguments {
-            file: given.input(),
+            file,
+            format,
+            columns: given.value("columns"),
             svg: given.value("svg"),
             remove: given.value("remove"),
-            constraints: given.value("constraints"),
-            outline: given.value("outline"),
+            constraints: given
+                .value("constraints")
+                .or(own_segments(file, format, outline)),
+            outline,
             nearest,
+            locate,
+            files,
             output: given.choice(OUTPUTS).or(unasked),
             scale: given.value("scale").and_then(scale_of),
             is_on_grid: given.has("grid"),
             is_timed: given.has("time"),
+        }
+    }
+
+    /// Returns what is wrong with them, if something is.
+    pub fn check(&self) -> Result<(), Wrong> {
+        if let Some(path) = self.locate.filter(|_| self.asks_for_more()) {
+            return Err(Wrong::quoting(Sentence::LocatesAlone, path));
+        }
+        match (self.file, self.format, self.output) {
+            (None, Format::Poly, _) => Err(Wrong::quoting(Sentence::ReadTwice, "--format poly")),
+            (Some(file), _, Some(Output::Voronoi)) if self.has_constraints() => {
+                Err(Wrong::quoting(Sentence::Constrained, file))
+            }
+            _ => Ok(()),
+        }
+    }
+
+    /// Returns whether something is asked for that can't stand beside places.
+    fn asks_for_more(&self) -> bool {
+        self.nearest.is_some()
+            || self.svg.is_some()
+            || self.has_constraints()
+            || has_some(&self.files)
+    }
+
+    /// Returns the file with points that are looked for, if there is one.
+    pub fn places(&self) -> Option<&'a str> {
+        self.nearest.or(self.locate)
+    }
+
+    /// Returns the format of a file: that of the points, if it is the same file, or by its name.
+    pub fn format_of(&self, path: &str) -> Format {
+        match self.file {
+            Some(file) if file == path => self.format,
+            _ => Format::of_file(path),
         }
     }
 
@@ -233,6 +396,24 @@ impl<'a> Arguments<'a> {
         ensures { self.now.constraints ≡ None → self.now.outline ≡ None → result ≡ false }
     {
         self.constraints.is_some() || self.outline.is_some()
+    }
+}
+
+/// Returns whether a file is asked for.
+fn has_some(files: &[Option<&str>]) -> bool {
+    files.iter().any(|file| file.is_some())
+}
+
+/// Returns the file of points, if its own segments are constraints, and not an outline.
+fn own_segments<'a>(
+    file: Option<&'a str>,
+    format: Format,
+    outline: Option<&'a str>,
+) -> Option<&'a str> {
+    if matches!(format, Format::Poly) && outline != file {
+        file
+    } else {
+        None
     }
 }
 

@@ -1,14 +1,16 @@
 //! Why the program gives up.
 
+use crate::quoting::{Excerpt, Sentence};
 use dcel_decimals::{Decimal, DecimalError, Scale};
 use dcel_delaunay::{InsertionError, Point, RemovalError};
+use std::fmt::{self, Debug, Display, Formatter};
 use thiserror::Error;
 
 /// Why the program gives up.
 pub type Fault = dcel_programs::Fault<Wrong>;
 
 /// What is wrong with the input.
-#[derive(Clone, Copy, Debug, Drop, Error)]
+#[derive(Clone, Copy, Drop, Error)]
 pub enum Wrong {
     /// A line has one word.
     #[error("a point has two coordinates, here is one")]
@@ -34,12 +36,18 @@ pub enum Wrong {
     /// A number is further from 0 than this.
     #[error("a coordinate is below -{0} or above {0}; --grid takes it, rounded")]
     OutOfRange(Decimal),
+    /// A text is refused.
+    #[error("{0}: '{1}'")]
+    Quoted(Sentence, Excerpt),
     /// Both a scale and a grid are asked for.
     #[error("--grid makes a scale needless: leave out --scale")]
     ScaledGrid,
     /// A line has no number of a point.
     #[error("there is no point of this number")]
     NoPoint,
+    /// It has a number that no point has.
+    #[error("there is no point {0} in the points' file, which has {1}, numbered from {2}")]
+    FarNumber(usize, usize, usize),
     /// A line of constraints hasn't two numbers.
     #[error("a constraint has the numbers of two points")]
     NoPair,
@@ -72,7 +80,18 @@ pub enum Wrong {
     NotRemoved,
 }
 
+impl Debug for Wrong {
+    fn fmt<W: fmt::Write>(&self, f: &mut Formatter<W>) -> fmt::Result {
+        Display::fmt(self, f)
+    }
+}
+
 impl Wrong {
+    /// Returns what is wrong with a text, with its beginning.
+    pub fn quoting(sentence: Sentence, text: &str) -> Self {
+        Wrong::Quoted(sentence, Excerpt::of(text.trim_ascii()))
+    }
+
     /// Returns that a number is out of the range of points, where it is multiplied by this scale.
     pub fn out_of_range(scale: Scale) -> Self {
         Wrong::OutOfRange(Decimal::from_scaled(Point::LIMIT as i64, scale))

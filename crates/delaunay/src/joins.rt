@@ -1,8 +1,11 @@
 //! Points that are to be joined, read from lines.
 
 use crate::fault::{Fault, Wrong};
+use crate::format::Format;
+use crate::numbering::Numbering;
 use crate::reading::{in_file, two_words};
 use crate::removal::number_of;
+use crate::triangle::read_segments;
 use dcel_programs::{before_comment, numbered_lines, read_text};
 use std::alloc::{AllocError, Global};
 use std::rt::Files;
@@ -27,15 +30,30 @@ pub enum Form {
     Curves,
 }
 
-/// Reads the joins that a file says, of so many points.
+impl Form {
+    /// Returns whether joins have an inside.
+    fn has_inside(self) -> bool {
+        match self {
+            Form::Pairs => false,
+            Form::Curves => true,
+        }
+    }
+}
+
+/// Reads the joins that a file in this format says, of points that are numbered like this.
 pub fn read_joins(
     rt: &(impl Files + Input + AllocGlobal),
     path: &str,
+    format: Format,
     form: Form,
-    count: usize,
+    numbering: Numbering,
 ) -> Result<Vec<Join>, Fault> {
     let text = read_text(rt, Some(path))?;
-    joins_of(rt.alloc(), &text, form, count).map_err(|fault| in_file(rt.alloc(), Some(path), fault))
+    let joins = match format {
+        Format::Poly => read_segments(rt.alloc(), &text, numbering, form.has_inside()),
+        _ => joins_of(rt.alloc(), &text, form, numbering.count),
+    };
+    joins.map_err(|fault| in_file(rt.alloc(), Some(path), fault))
 }
 
 /// Returns the joins that lines say.
@@ -78,12 +96,7 @@ fn join_of(from: usize, to: usize, line: usize) -> Result<Join, Fault> {
 
 /// Returns the number of one of so many points that a word says, or what is wrong with it.
 fn point(word: &str, none: Wrong, count: usize) -> Result<usize, Wrong> {
-    let number = number_of(word).ok_or(none)?;
-    if number < count {
-        Ok(number)
-    } else {
-        Err(Wrong::NoPoint)
-    }
+    Numbering::plain(count).place(number_of(word).ok_or(none)?)
 }
 
 /// Returns the points of a closed curve, with blanks, commas or both between them.

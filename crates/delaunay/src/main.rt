@@ -7,21 +7,30 @@
 
 mod answering;
 mod arguments;
+mod columns;
 mod constraining;
 mod drawn;
 mod fault;
+mod fields;
+mod foreign;
+mod format;
 mod fraction;
 mod joins;
 mod listing;
+mod locating;
 mod nearest;
+mod numbering;
 mod outlining;
 mod picture;
+mod quoting;
 mod reading;
 mod removal;
 mod removing;
+mod saving;
 mod segments;
 mod task;
 mod timing;
+mod triangle;
 mod triangulating;
 mod unit;
 mod view;
@@ -32,6 +41,7 @@ mod writing;
 use crate::answering::answer;
 use crate::arguments::{Arguments, PROGRAM};
 use crate::fault::Fault;
+use crate::locating::locate;
 use crate::task::Task;
 use dcel_programs::{Progress, run};
 use std::io::{self, BufWriter, Write};
@@ -66,7 +76,10 @@ fn write_answer(
     arguments: &Arguments,
     task: &Task,
 ) -> Result<(), Fault> {
-    answer(rt, writer, progress, arguments, task)?;
+    match arguments.locate {
+        None => answer(rt, writer, progress, arguments, task)?,
+        Some(_) => locate(rt, writer, progress, arguments, task)?,
+    }
     match writer.flush() {
         Ok(()) => Ok(()),
         Err(error) => Err(Fault::Output(error)),

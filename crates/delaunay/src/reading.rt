@@ -1,10 +1,14 @@
 //! Points read from lines.
 
+use crate::columns::{Columns, Head};
 use crate::fault::{Fault, Wrong};
+use crate::fields::{uncommented, unquoted};
+use crate::format::Format;
+use crate::triangle::read_points;
 use crate::unit::{Moves, scaled_point};
 use dcel_decimals::{Decimal, Grid, Scale};
 use dcel_delaunay::Point;
-use dcel_programs::{before_comment, numbered_lines, read_text};
+use dcel_programs::{numbered_lines, read_text};
 use std::alloc::{AllocError, Global};
 use std::rt::Files;
 
@@ -13,25 +17,59 @@ use std::rt::Files;
 pub struct Coordinates {
     all: Vec<Decimal>,
     lines: Vec<usize>,
+    /// The number that the file gives the first point.
+    pub first: usize,
 }
 
 impl Coordinates {
-    /// Reads those of all lines. The first line with words may be a header.
-    pub fn of(alloc: Global, text: &str) -> Result<Self, Fault> {
+    /// Reads those of a file in this format, from the columns that are asked for.
+    pub fn of(
+        alloc: Global,
+        text: &str,
+        format: Format,
+        asked: Option<&str>,
+    ) -> Result<Self, Fault> {
+        match format {
+            Format::Lines => Coordinates::of_lines(alloc, text, asked),
+            Format::Node => read_points(alloc, text, false),
+            Format::Poly => read_points(alloc, text, true),
+        }
+    }
+
+    /// Reads those of all lines, from the columns that are asked for, or from two. The first line
+    /// with words may have names of columns, and the next one units.
+    fn of_lines(alloc: Global, text: &str, asked: Option<&str>) -> Result<Self, Fault> {
+        let columns = Columns::of(text, asked)?;
         let mut coordinates = Coordinates::none(alloc);
-        let mut may_be_header = true;
+        coordinates.read_lines(text, columns)?;
+        Ok(coordinates)
+    }
+
+    /// Reads all lines.
+    fn read_lines(&mut self, text: &str, columns: Columns) -> Result<(), Fault> {
+        let mut head = Head::Begins;
         for (line, said) in numbered_lines(text) {
-            let words = before_comment(said).trim_ascii();
-            if words.is_empty() {
+            let words = uncommented(said);
+            if words.trim_ascii().is_empty() {
                 continue;
             }
-            if !may_be_header || !is_header(words) {
-                let two = two_numbers(words).map_err(|wrong| Fault::Line { line, wrong })?;
-                coordinates.add(line, two)?;
+            head = head.behind(words, columns);
+            if head.is_over() {
+                self.read_line(line, words, columns)?;
             }
-            may_be_header = false;
         }
-        Ok(coordinates)
+        Ok(())
+    }
+
+    /// Reads the point of a line.
+    fn read_line(&mut self, line: usize, words: &str, columns: Columns) -> Result<(), Fault> {
+        match columns.read(words) {
+            Ok(two) => {
+                self.add(line, two)?;
+                Ok(())
+            }
+            Err(wrong) => Err(Fault::Line { line, wrong }),
+        }
     }
 
     /// Returns no coordinates.
@@ -39,11 +77,12 @@ impl Coordinates {
         Coordinates {
             all: Vec::new(alloc),
             lines: Vec::new(alloc),
+            first: 0,
         }
     }
 
     /// Adds a point.
-    fn add(&mut self, line: usize, two: [Decimal; 2]) -> Result<(), AllocError> {
+    pub fn add(&mut self, line: usize, two: [Decimal; 2]) -> Result<(), AllocError> {
         self.lines.push(line)?;
         self.all.extend_from_slice(&two)
     }
@@ -114,9 +153,15 @@ impl Coordinates {
 pub fn read_coordinates(
     rt: &(impl Files + Input + AllocGlobal),
     path: &str,
+    columns: Option<&str>,
 ) -> Result<Coordinates, Fault> {
     let text = read_text(rt, Some(path))?;
-    Coordinates::of(rt.alloc(), &text).map_err(|fault| in_file(rt.alloc(), Some(path), fault))
+    let format = Format::of_file(path);
+    Coordinates::of(rt.alloc(), &text, format, columns).map_err(|fault| in_file(
+        rt.alloc(),
+        Some(path),
+        fault,
+    ))
 }
 
 /// Returns what is wrong with a line as what is wrong with a line of this file, if there is one.
@@ -127,27 +172,9 @@ pub fn in_file(alloc: Global, path: Option<&str>, fault: Fault) -> Fault {
     }
 }
 
-/// Returns whether all words begin with a letter, as names of columns do.
-fn is_header(words: &str) -> bool {
-    words.split(',').all(|part| {
-        let mut names = part.split_ascii_whitespace();
-        names.next().is_some_and(is_name) && names.all(is_name)
-    })
-}
-
-fn is_name(word: &str) -> bool {
-    word.starts_with(|first: char| first.is_alphabetic())
-}
-
-/// Returns the coordinates that the words of a line say.
-fn two_numbers(words: &str) -> Result<[Decimal; 2], Wrong> {
-    let (x, y) = two_words(words)?;
-    Ok([Decimal::read(x)?, Decimal::read(y)?])
-}
-
-/// Returns two words, with blanks, a comma or both between them.
+/// Returns two words, with blanks, a comma or a semicolon between them.
 pub fn two_words(words: &str) -> Result<(&str, &str), Wrong> {
-    if let Some((x, y)) = words.split_once(',') {
+    if let Some((x, y)) = words.split_once(',').or(words.split_once(';')) {
         return Ok((only_word(x)?, only_word(y)?));
     }
     let mut words = words.split_ascii_whitespace();
@@ -156,14 +183,14 @@ pub fn two_words(words: &str) -> Result<(&str, &str), Wrong> {
     if words.next().is_some() {
         return Err(Wrong::MoreWords);
     }
-    Ok((x, y))
+    Ok((unquoted(x), unquoted(y)))
 }
 
-/// Returns the one word beside a comma.
+/// Returns the one word beside a comma or a semicolon.
 fn only_word(part: &str) -> Result<&str, Wrong> {
-    let mut words = part.split_ascii_whitespace();
+    let mut words = unquoted(part).split_ascii_whitespace();
     let word = words.next().ok_or(Wrong::OneWord)?;
-    if words.next().is_some() || word.contains(',') {
+    if words.next().is_some() || word.contains(',') || word.contains(';') {
         return Err(Wrong::MoreWords);
     }
     Ok(word)

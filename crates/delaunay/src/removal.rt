@@ -1,6 +1,7 @@
 //! Numbers of points, read from lines.
 
 use crate::fault::{Fault, Wrong};
+use crate::numbering::Numbering;
 use dcel_programs::{before_comment, numbered_lines, read_text};
 use std::rt::Files;
 
@@ -17,12 +18,21 @@ pub fn read_marks(
         if word.is_empty() {
             continue;
         }
-        let Some(mark) = number_of(word).and_then(|number| marks.get_mut(number)) else {
-            return Err(Fault::of_line(rt.alloc(), path, line, Wrong::NoPoint));
-        };
-        *mark = true;
+        if let Err(wrong) = mark(&mut marks, word) {
+            return Err(Fault::of_line(rt.alloc(), path, line, wrong));
+        }
     }
     Ok(marks)
+}
+
+/// Marks the point whose number a word says.
+fn mark(marks: &mut [bool], word: &str) -> Result<(), Wrong> {
+    let numbering = Numbering::plain(marks.len());
+    let place = numbering.place(number_of(word).ok_or(Wrong::NoPoint)?)?;
+    if let Some(mark) = marks.get_mut(place) {
+        *mark = true;
+    }
+    Ok(())
 }
 
 /// Returns the number that a word says, if it says one.

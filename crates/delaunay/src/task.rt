@@ -3,6 +3,7 @@
 use crate::arguments::Arguments;
 use crate::fault::{Fault, Wrong};
 use crate::joins::{Form, Join, read_joins};
+use crate::numbering::Numbering;
 use crate::reading::{Coordinates, in_file, read_coordinates};
 use crate::removal::read_marks;
 use crate::unit::{Moves, Unit};
@@ -24,7 +25,7 @@ pub struct Task {
     pub constraints: Vec<Join>,
     /// Which of them are joined by the curves of an outline.
     pub outline: Vec<Join>,
-    /// The points to which the nearest one is asked for.
+    /// The points to which the nearest one is asked for, or that are located.
     pub places: Vec<Point>,
     /// What all coordinates stand for.
     pub unit: Unit,
@@ -38,6 +39,9 @@ impl Task {
         rt: &(impl Files + Input + Eprint + AllocGlobal),
         arguments: &Arguments,
     ) -> Result<Self, Fault> {
+        if let Err(wrong) = arguments.check() {
+            return Err(Fault::Input(wrong));
+        }
         let alloc = rt.alloc();
         let mut task = Task {
             points: Vec::new(alloc),
@@ -56,10 +60,20 @@ impl Task {
         rt: &(impl Files + Input + Eprint + AllocGlobal),
         arguments: &Arguments,
     ) -> Result<(), Fault> {
-        let coordinates = Coordinates::of(rt.alloc(), &read_text(rt, arguments.file)?)?;
-        match arguments.nearest {
+        let coordinates = Coordinates::of(
+            rt.alloc(),
+            &read_text(rt, arguments.file)?,
+            arguments.format,
+            arguments.columns,
+        )?;
+        match arguments.places() {
             None => self.take(rt, arguments, &coordinates, &Coordinates::none(rt.alloc())),
-            Some(path) => self.take(rt, arguments, &coordinates, &read_coordinates(rt, path)?),
+            Some(path) => self.take(
+                rt,
+                arguments,
+                &coordinates,
+                &read_coordinates(rt, path, arguments.columns)?,
+            ),
         }
     }
 
@@ -72,16 +86,17 @@ impl Task {
         coordinates: &Coordinates,
         asked: &Coordinates,
     ) -> Result<(), Fault> {
+        report_first(rt, coordinates.first)?;
         self.unit = unit_of(rt, arguments, coordinates, asked)?;
         let mut moves = Moves::NONE;
         self.points = points_of(rt.alloc(), coordinates, self.unit, &mut moves)?;
         if let Unit::Grid(grid) = self.unit {
             self.report_moves(rt, grid, moves, coordinates)?;
         }
-        self.read_numbers(rt, arguments)?;
+        self.read_numbers(rt, arguments, coordinates.first)?;
         self.places = points_of(rt.alloc(), asked, self.unit, &mut moves).map_err(|fault| in_file(
             rt.alloc(),
-            arguments.nearest,
+            arguments.places(),
             fault,
         ))?;
         Ok(())
@@ -112,16 +127,20 @@ impl Task {
         &mut self,
         rt: &(impl Files + Input + AllocGlobal),
         arguments: &Arguments,
+        first: usize,
     ) -> Result<(), Fault> {
         let count = self.points.len();
+        let numbering = Numbering { count, first };
         if let Some(path) = arguments.remove {
             self.is_removed = read_marks(rt, path, count)?;
         }
         if let Some(path) = arguments.constraints {
-            self.constraints = read_joins(rt, path, Form::Pairs, count)?;
+            let format = arguments.format_of(path);
+            self.constraints = read_joins(rt, path, format, Form::Pairs, numbering)?;
         }
         if let Some(path) = arguments.outline {
-            self.outline = read_joins(rt, path, Form::Curves, count)?;
+            let format = arguments.format_of(path);
+            self.outline = read_joins(rt, path, format, Form::Curves, numbering)?;
         }
         Ok(())
     }
@@ -141,12 +160,20 @@ fn unit_of(
         (false, None) => {
             let scale = asked
                 .scale()
-                .map_err(|fault| in_file(rt.alloc(), arguments.nearest, fault));
+                .map_err(|fault| in_file(rt.alloc(), arguments.places(), fault));
             let least = greater(coordinates.scale()?, scale?);
             report_scale(rt, least)?;
             Ok(Unit::Scale(least))
         }
     }
+}
+
+/// Says on standard error that a file numbers its points from 1, if it does.
+fn report_first(rt: &impl Eprint, first: usize) -> io::Result<()> {
+    if first > 0 {
+        eprintln!(rt; "delaunay: the file numbers its points from 1, and all else here from 0")?;
+    }
+    Ok(())
 }
 
 /// Says on standard error which scale it is, unless it is 1.

@@ -49,7 +49,7 @@ fn write_both<W: Write, UE>(
 }
 
 /// Writes what is asked for.
-fn write_output<W: Write, UE>(
+pub fn write_output<W: Write, UE>(
     alloc: Global,
     writer: &mut W,
     output: Output,

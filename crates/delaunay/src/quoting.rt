@@ -1,0 +1,141 @@
+//! What is said of a text that is refused, with the text.
+
+use std::fmt;
+
+/// What is wrong with a text.
+#[derive(Clone, Copy)]
+pub enum Sentence {
+    /// It is no number.
+    NoNumber,
+    /// It has brackets.
+    Brackets,
+    /// It begins as JSON does.
+    Json,
+    /// It begins as XML does.
+    Xml,
+    /// It begins as WKT does.
+    Wkt,
+    /// It is no text.
+    Binary,
+    /// Its numbers have commas in place of points.
+    DecimalComma,
+    /// It names no two columns.
+    NoColumns,
+    /// It is the name of no column.
+    NoName,
+    /// It has too few columns.
+    FewColumns,
+    /// It is the last line, and more have to follow.
+    Ends,
+    /// It says no count.
+    NoCount,
+    /// It says no counts of points in the plane.
+    NoCounts,
+    /// It says that the points are in another file.
+    PointsElsewhere,
+    /// It says another count than that of the points.
+    OtherPoints,
+    /// It is no point of Triangle.
+    NoNode,
+    /// It is no segment of Triangle.
+    NoSegment,
+    /// It is a point out of order.
+    OutOfOrder,
+    /// It is one point too many.
+    MorePoints,
+    /// It says that there are holes.
+    Holes,
+    /// It asks to read standard input twice.
+    ReadTwice,
+    /// It asks for places beside something else.
+    LocatesAlone,
+    /// It asks for the Voronoi diagram of constraints.
+    Constrained,
+}
+
+impl fmt::Display for Sentence {
+    fn fmt<W: fmt::Write>(&self, f: &mut fmt::Formatter<W>) -> fmt::Result {
+        f.write_str(match self {
+            Sentence::NoNumber => "a coordinate is no number",
+            Sentence::Brackets => "a point has two numbers without brackets",
+            Sentence::Json => "this looks like JSON, which isn't read",
+            Sentence::Xml => "this looks like XML, which isn't read",
+            Sentence::Wkt => "this looks like WKT, which isn't read",
+            Sentence::Binary => "this is binary, and only text is read",
+            Sentence::DecimalComma => "a decimal has a point, and here are commas",
+            Sentence::NoColumns => {
+                "--columns takes two columns, as 2,3 or lon,lat, by number from 1 or by name"
+            }
+            Sentence::NoName => "there is no column of this name",
+            Sentence::FewColumns => "the line has too few columns",
+            Sentence::Ends => "the file ends before all that its counts say",
+            Sentence::NoCount => "a line of Triangle's formats begins with a count here",
+            Sentence::NoCounts => "a .node or .poly begins with a count of points, and then 2",
+            Sentence::PointsElsewhere => {
+                "the points are in a .node, to which this .poly is --constraints or --outline"
+            }
+            Sentence::OtherPoints => "the .poly has another count of points than the input",
+            Sentence::NoNode => "a point of a .node or .poly has a number and two coordinates",
+            Sentence::NoSegment => "a segment of a .poly has a number and those of two points",
+            Sentence::OutOfOrder => {
+                "points of a .node or .poly are numbered in their order, from 0 or 1"
+            }
+            Sentence::MorePoints => "the .node has more points than its count says",
+            Sentence::Holes => {
+                "there are holes, which only --outline takes, as curves inside others"
+            }
+            Sentence::ReadTwice => "a .poly is read twice, and needs a file",
+            Sentence::LocatesAlone => {
+                "--locate stands without --nearest, --svg, constraints and outlines"
+            }
+            Sentence::Constrained => "--voronoi takes no segments",
+        })
+    }
+}
+
+/// How many characters of a text are shown.
+const MOST: usize = 32;
+
+/// The beginning of a text.
+#[derive(Clone, Copy)]
+pub struct Excerpt {
+    shown: [char; MOST],
+    count: usize,
+    is_cut: bool,
+}
+
+impl Excerpt {
+    /// Returns the beginning of a text.
+    pub fn of(text: &str) -> Self {
+        let mut excerpt = Excerpt {
+            shown: [' '; MOST],
+            count: 0,
+            is_cut: text.chars().nth(MOST).is_some(),
+        };
+        for next in text.chars().take(MOST) {
+            excerpt.add(if next.is_control() { '\u{fffd}' } else { next });
+        }
+        excerpt
+    }
+
+    /// Adds a character, if there is room.
+    fn add(&mut self, next: char) {
+        let count = self.count;
+        if let Some(place) = self.shown.get_mut(count) {
+            *place = next;
+            self.count = count.saturating_add(1);
+        }
+    }
+}
+
+impl fmt::Display for Excerpt {
+    fn fmt<W: fmt::Write>(&self, f: &mut fmt::Formatter<W>) -> fmt::Result {
+        for shown in self.shown.iter().take(self.count) {
+            f.write_char(*shown)?;
+        }
+        if self.is_cut {
+            f.write_str("..")?;
+        }
+        Ok(())
+    }
+}
