@@ -1,4 +1,6 @@
+pub mod Chained
 pub mod Faces
 pub mod KeptSoFar
 pub mod Lines
 pub mod Near
+pub mod Parted

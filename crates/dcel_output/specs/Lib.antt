@@ -1,3 +1,5 @@
+pub mod Constraining
 pub mod Keeping
 pub mod Lines
 pub mod Numbering
+pub mod Outlining

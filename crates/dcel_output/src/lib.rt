@@ -7,19 +7,24 @@
 //! that means for the points.
 #![tactic(auto)]
 
+mod along;
+mod constraining;
 mod keeping;
 pub mod laws;
 mod nearest;
 mod numbered;
 mod numbering;
+mod outlining;
 mod triangulating;
 mod turning;
 mod writing;
 
+pub use constraining::{SegmentError, constrain};
 pub use keeping::kept;
 pub use nearest::nearest_numbers;
 pub use numbered::{numbered_edges, numbered_hull, numbered_triangles};
 pub use numbering::{number_edges, number_triangles, number_vertices};
+pub use outlining::{OutlineError, triangles_inside};
 pub use triangulating::{Triangulated, triangulate_points};
 pub use turning::corners;
 pub use writing::{write_edges, write_nearest, write_neighbors, write_triangles, write_vertices};

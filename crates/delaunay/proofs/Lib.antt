@@ -1,1 +1,2 @@
+pub mod Constraining
 pub mod Written

@@ -1,17 +1,24 @@
 -- What the program is asked for, and what it writes then.
-use Rattle.std.specs.Prelude.{◌≡◌, ◌≢◌, ℕ, List, Option, None, Some}
+use Rattle.std.specs.Prelude.{◌≡◌, ◌≢◌, ◌⊎◌, ◌++◌, ℕ, Bool, List, Option, None, Some}
 use Rattle.std.specs.Io.KnownBytes.{Appends}
 use Rattle.dcel_predicates.specs.declared.point.Point.{Point}
+use Rattle.dcel_maps.specs.Shapes.{Mesh}
+use Rattle.dcel_regions.specs.declared.mark.Mark.{Mark}
+use Rattle.dcel_constrained.specs.declared.load.Segment.{Segment}
 use Rattle.dcel_planar.specs.Outcomes.{IsWholeMesh}
 use Rattle.dcel_delaunay.specs.Bulk.{AnswersEach}
 use Rattle.dcel_delaunay.specs.Triangles.{AreDelaunayTriangles}
 use Rattle.dcel_delaunay.specs.Triangulated.{mesh_in}
 use Rattle.dcel_delaunay.specs.declared.triangles.triangle.Triangle.{Triangle}
+use Rattle.dcel_output.specs.Constraining.{AreConstrainedTriangles, StandsThere}
+use Rattle.dcel_output.specs.Keeping.{kept}
 use Rattle.dcel_output.specs.Lines.{lines_of, nearest_line, triangle_line}
-use Rattle.dcel_output.specs.Numbering.{IsNearestPoint, NumbersVertices}
+use Rattle.dcel_output.specs.Numbering.{IsNearestPoint, NumbersVertices, triangles_numbered}
+use Rattle.dcel_output.specs.Outlining.{ListsInside}
 use Rattle.delaunay.specs.declared.arguments.Arguments.{Arguments}
 use Rattle.delaunay.specs.declared.arguments.Output.TheVariants.{Triangles}
 use Rattle.delaunay.specs.declared.drawn.Drawn.{Drawn}
+use Rattle.delaunay.specs.declared.view.Inside.{Inside}
 
 -- all points stay, and no edge has to
 pub record ChangesNothing (a : Arguments) : Type 0 where
@@ -31,13 +38,67 @@ pub record AsksForNearest (a : Arguments) : Type 0 where
   pub nearest : a.nearest ≢ None
   pub plain : ChangesNothing a
 
+-- some edges have to stay
+abbrev pub HasConstraints : Arguments → Type 0
+HasConstraints a = (a.constraints ≢ None) ⊎ (a.outline ≢ None)
+
+-- the triangles are asked for, all points stay, and edges have to
+pub record AsksForConstrained (a : Arguments) : Type 0 where
+  pub output : a.output ≡ Some Triangles
+  pub nearest : a.nearest ≡ None
+  pub remove : a.remove ≡ None
+  pub constraints : a.constraints ≢ None
+  pub outline : a.outline ≡ None
+
+-- the triangles inside an outline are
+pub record AsksForInside (a : Arguments) : Type 0 where
+  pub output : a.output ≡ Some Triangles
+  pub nearest : a.nearest ≡ None
+  pub remove : a.remove ≡ None
+  pub outline : a.outline ≢ None
+
+-- the triangles that are shown: all, or those inside an outline
+abbrev pub shown : {T : Type 0} → Option Inside → List T → List T
+shown None items = items
+shown (Some inside) items = kept inside.triangles.items items
+
 -- the lines of the triangles of a Delaunay triangulation of the points, behind what was written
 abbrev pub WritesTriangles : List Point → Option (List ℕ) → Option (List ℕ) → Type 0
 WritesTriangles points old new = (triangles : List Triangle) × AreDelaunayTriangles points triangles × Appends old new (lines_of triangle_line triangles)
 
+-- the lines of the triangles of a constrained Delaunay triangulation of the points, whose marked edges are those of the segments
+pub record TellsConstrained (points : List Point) (segments : List Segment) (text : List ℕ) : Type 0 where
+  pub mesh : Mesh Point (Unit {0}) Mark (Unit {0})
+  pub vertices : List (Option ℕ)
+  pub numbers : List ℕ
+  pub are : AreConstrainedTriangles points vertices segments mesh numbers
+  pub lines : text ≡ lines_of triangle_line (triangles_numbered mesh numbers)
+
+-- of those inside an outline with these sides alone
+pub record TellsInside (points : List Point) (segments sides : List Segment) (text : List ℕ) : Type 0 where
+  pub mesh : Mesh Point (Unit {0}) Mark (Unit {0})
+  pub vertices : List (Option ℕ)
+  pub numbers : List ℕ
+  pub are : AreConstrainedTriangles points vertices segments mesh numbers
+  pub flags : List Bool
+  pub inside : ListsInside mesh vertices sides flags
+  pub lines : text ≡ lines_of triangle_line (kept flags (triangles_numbered mesh numbers))
+
+-- such a text, behind what was written
+abbrev pub Writes : (List ℕ → Type 0) → Option (List ℕ) → Option (List ℕ) → Type 0
+Writes Tells old new = (text : List ℕ) × Tells text × Appends old new text
+
+-- and a rest behind it
+abbrev pub WritesBefore : (List ℕ → Type 0) → List ℕ → Option (List ℕ) → Option (List ℕ) → Type 0
+WritesBefore Tells rest old new = (text : List ℕ) × Tells text × Appends old new (text ++ rest)
+
 -- for each place the line of a point that is nearest to it
 abbrev pub WritesNearest : List Point → List Point → Option (List ℕ) → Option (List ℕ) → Type 0
 WritesNearest points places old new = (nearest : List (Option ℕ)) × AnswersEach (IsNearestPoint points) places nearest × Appends old new (lines_of nearest_line nearest)
+
+-- the vertex of each point
+abbrev pub HasVertices : List Point → Drawn → Type 0
+HasVertices points d = AnswersEach (StandsThere (mesh_in d.triangulation)) points d.vertices.items
 
 -- a whole triangulation of the points, by their numbers
 pub record IsDrawn (points : List Point) (d : Drawn) : Type 0 where

@@ -1,11 +1,13 @@
 //! What the program answers to what it has read.
 
-ghost use Rattle.std.specs.Prelude.{◌≡◌, ◌++◌, None, OnOk, Some};
+ghost use Rattle.std.specs.Prelude.{◌≡◌, ◌++◌, List, None, OnOk, Some, map, option_copied};
 ghost use Rattle.std.specs.Io.KnownBytes.{Appends};
 ghost use Rattle.dcel_delaunay.specs.Triangulated.{mesh_in};
 ghost use Rattle.dcel_output.specs.Lines.{lines_of, nearest_line, triangle_line};
 ghost use Rattle.dcel_output.specs.Numbering.{triangles_numbered};
-ghost use Rattle.delaunay.specs.Answers.{AsksForNearest, AsksForTriangles, ChangesNothing, IsDrawn, WritesNearest, WritesTriangles};
+ghost use Rattle.dcel_predicates.specs.declared.point.Point.{Point};
+ghost use Rattle.delaunay.specs.Answers.{AsksForConstrained, AsksForInside, AsksForNearest, AsksForTriangles, ChangesNothing, HasConstraints, HasVertices, IsDrawn, TellsConstrained, TellsInside, Writes, WritesBefore, WritesNearest, WritesTriangles, shown};
+ghost use Rattle.delaunay.specs.Segments.{segment_of, segments_of};
 
 use crate::arguments::{Arguments, Output};
 use crate::constraining::Constrained;
@@ -27,8 +29,9 @@ use std::time::Instant;
 /// Triangulates the points of a task, and writes what is asked for.
 ///
 /// If triangles are asked for, and nothing else, then those are written of a Delaunay triangulation
-/// of the points, a line for each; if nearest points are, a line for each place. If a write fails,
-/// some of the text may be written.
+/// of the points, a line for each; if nearest points are, a line for each place. With constraints it
+/// is a constrained one, whose marked edges are those of the segments, and with an outline those of
+/// its triangles are written that are inside. If a write fails, some of the text may be written.
 pub fn answer<W: Write>(
     rt: &(impl Files + Clock + Print + Eprint + AllocGlobal),
     writer: &mut W,
@@ -38,6 +41,10 @@ pub fn answer<W: Write>(
 ) -> Result<(), Fault>
     ensures triangles { OnOk result (AsksForTriangles arguments.now → WritesTriangles task.now.points.items (W.contents writer.old) (W.contents writer.new)) }
     ensures nearest { OnOk result (AsksForNearest arguments.now → WritesNearest task.now.points.items task.now.places.items (W.contents writer.old) (W.contents writer.new)) }
+    ensures constrained { OnOk result (AsksForConstrained arguments.now
+        → Writes (TellsConstrained task.now.points.items (segments_of task.now.constraints.items task.now.outline.items)) (W.contents writer.old) (W.contents writer.new)) }
+    ensures inside { OnOk result (AsksForInside arguments.now
+        → Writes (TellsInside task.now.points.items (segments_of task.now.constraints.items task.now.outline.items) (map segment_of task.now.outline.items)) (W.contents writer.old) (W.contents writer.new)) }
 {
     let drawn = triangulate(rt, progress, arguments, task)?;
     answer_of(rt, writer, arguments, task, &drawn)
@@ -55,6 +62,10 @@ fn answer_of<W: Write>(
         → WritesTriangles task.now.points.items (W.contents writer.old) (W.contents writer.new)) }
     ensures nearest { OnOk result (AsksForNearest arguments.now → IsDrawn task.now.points.items drawn.now
         → WritesNearest task.now.points.items task.now.places.items (W.contents writer.old) (W.contents writer.new)) }
+    ensures constrained { OnOk result (AsksForConstrained arguments.now → IsDrawn task.now.points.items drawn.now → HasVertices task.now.points.items drawn.now
+        → Writes (TellsConstrained task.now.points.items (segments_of task.now.constraints.items task.now.outline.items)) (W.contents writer.old) (W.contents writer.new)) }
+    ensures inside { OnOk result (AsksForInside arguments.now → IsDrawn task.now.points.items drawn.now → HasVertices task.now.points.items drawn.now
+        → Writes (TellsInside task.now.points.items (segments_of task.now.constraints.items task.now.outline.items) (map segment_of task.now.outline.items)) (W.contents writer.old) (W.contents writer.new)) }
 {
     numbered_triangles_are_delaunay(&drawn.triangulation);
     nearest_numbers_are_nearest(&drawn.triangulation);
@@ -74,6 +85,13 @@ fn write_found<W: Write>(
     ensures triangles { OnOk result (ChangesNothing arguments.now → arguments.now.output ≡ Some Output.Triangles → Appends (W.contents writer.old) (W.contents writer.new)
         (lines_of triangle_line (triangles_numbered (mesh_in drawn.now.triangulation) drawn.now.numbers.items) ++ lines_of nearest_line nearest.now)) }
     ensures nearest { OnOk result (ChangesNothing arguments.now → arguments.now.output ≡ None → Appends (W.contents writer.old) (W.contents writer.new) (lines_of nearest_line nearest.now)) }
+    ensures constrained { OnOk result (arguments.now.output ≡ Some Output.Triangles → HasConstraints arguments.now → arguments.now.outline ≡ None
+        → (points : List Point) → IsDrawn points drawn.now → HasVertices points drawn.now
+        → WritesBefore (TellsConstrained points (segments_of task.now.constraints.items task.now.outline.items)) (lines_of nearest_line nearest.now) (W.contents writer.old) (W.contents writer.new)) }
+    ensures inside { OnOk result (arguments.now.output ≡ Some Output.Triangles → ¬ (arguments.now.outline ≡ None)
+        → (points : List Point) → IsDrawn points drawn.now → HasVertices points drawn.now
+        → WritesBefore (TellsInside points (segments_of task.now.constraints.items task.now.outline.items) (map segment_of task.now.outline.items)) (lines_of nearest_line nearest.now)
+        (W.contents writer.old) (W.contents writer.new)) }
 {
     if arguments.has_constraints() {
         return answer_constrained(rt, writer, arguments, task, drawn, nearest);
@@ -89,7 +107,15 @@ fn answer_constrained<W: Write>(
     task: &Task,
     drawn: &Drawn,
     nearest: &[Option<u32>],
-) -> Result<(), Fault> {
+) -> Result<(), Fault>
+    ensures constrained { OnOk result (arguments.now.output ≡ Some Output.Triangles → arguments.now.outline ≡ None
+        → (points : List Point) → IsDrawn points drawn.now → HasVertices points drawn.now
+        → WritesBefore (TellsConstrained points (segments_of task.now.constraints.items task.now.outline.items)) (lines_of nearest_line nearest.now) (W.contents writer.old) (W.contents writer.new)) }
+    ensures inside { OnOk result (arguments.now.output ≡ Some Output.Triangles → ¬ (arguments.now.outline ≡ None)
+        → (points : List Point) → IsDrawn points drawn.now → HasVertices points drawn.now
+        → WritesBefore (TellsInside points (segments_of task.now.constraints.items task.now.outline.items) (map segment_of task.now.outline.items)) (lines_of nearest_line nearest.now)
+        (W.contents writer.old) (W.contents writer.new)) }
+{
     let start = Instant::now(rt)?;
     let constrained = Constrained::of(rt.alloc(), arguments, task, drawn)?;
     tell_time(rt, arguments, start, " to put in constraints")?;
@@ -110,8 +136,8 @@ fn write_drawn<W: Write, UE>(
     view: &View<'_, UE>,
     nearest: &[Option<u32>],
 ) -> Result<(), Fault>
-    ensures triangles { OnOk result (arguments.now.output ≡ Some Output.Triangles → view.now.inside ≡ None → Appends (W.contents writer.old) (W.contents writer.new)
-        (lines_of triangle_line (triangles_numbered view.now.mesh.now view.now.numbers.now) ++ lines_of nearest_line nearest.now)) }
+    ensures triangles { OnOk result (arguments.now.output ≡ Some Output.Triangles → Appends (W.contents writer.old) (W.contents writer.new)
+        (lines_of triangle_line (shown (option_copied view.now.inside) (triangles_numbered view.now.mesh.now view.now.numbers.now)) ++ lines_of nearest_line nearest.now)) }
     ensures nearest { OnOk result (arguments.now.output ≡ None → Appends (W.contents writer.old) (W.contents writer.new) (lines_of nearest_line nearest.now)) }
 {
     save(rt, arguments, view)?;

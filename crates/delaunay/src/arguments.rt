@@ -393,7 +393,8 @@ impl<'a> Arguments<'a> {
 
     /// Returns whether some edges are to stay.
     pub fn has_constraints(&self) -> bool
-        ensures { self.now.constraints ≡ None → self.now.outline ≡ None → result ≡ false }
+        ensures none { self.now.constraints ≡ None → self.now.outline ≡ None → result ≡ false }
+        ensures some { result ≡ false → (self.now.constraints ≡ None) × (self.now.outline ≡ None) }
     {
         self.constraints.is_some() || self.outline.is_some()
     }

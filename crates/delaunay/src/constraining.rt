@@ -1,18 +1,27 @@
 //! Constraints put into a triangulation.
 
+ghost use Rattle.std.specs.Prelude.{◌≡◌, IfOk, List, None, map, option_copied};
+ghost use Rattle.dcel_constrained.specs.Constrained.{marked_mesh};
+ghost use Rattle.dcel_delaunay.specs.Bulk.{AnswersEach};
+ghost use Rattle.dcel_delaunay.specs.Triangulated.{mesh_in};
+ghost use Rattle.dcel_output.specs.Constraining.{AreConstrainedTriangles, StandsThere};
+ghost use Rattle.dcel_output.specs.Numbering.{NumbersVertices};
+ghost use Rattle.dcel_predicates.specs.declared.point.Point.{Point};
+ghost use Rattle.delaunay.specs.Outlined.{IsInsideOf};
+ghost use Rattle.delaunay.specs.Segments.{segment_of, segments_of};
+
 use crate::arguments::Arguments;
 use crate::drawn::Drawn;
 use crate::fault::{Fault, Wrong};
-use crate::joins::Join;
 use crate::outlining::inside;
 use crate::reading::in_file;
-use crate::segments::Segment;
+use crate::segments::segments_of;
 use crate::task::Task;
 use crate::view::{Inside, View};
 use dcel_constrained::ConstrainedTriangulation;
 use dcel_delaunay::InsertionError;
+use dcel_output::{SegmentError, constrain};
 use dcel_regions::Mark;
-use spade_dcel::handles::FixedVertexHandle;
 use std::alloc::{AllocError, Global};
 
 /// A constrained triangulation of points.
@@ -33,54 +42,30 @@ impl Constrained {
         arguments: &Arguments,
         task: &Task,
         drawn: &Drawn,
-    ) -> Result<Self, Fault> {
-        if !drawn.triangulation.is_whole() {
-            return Err(Fault::Input(Wrong::Insertion(InsertionError::Unfinished)));
-        }
-        let mut constrained = Constrained {
-            triangulation: ConstrainedTriangulation::from_triangulation(
-                &drawn.triangulation,
-                alloc,
-            )?,
-            is_marked: Vec::new(alloc),
-            inside: None,
-        };
-        constrained.add_all(alloc, arguments, task, drawn)?;
-        Ok(constrained)
-    }
-
-    /// Puts the constraints and the sides of the outline in.
-    fn add_all(
-        &mut self,
-        alloc: Global,
-        arguments: &Arguments,
-        task: &Task,
-        drawn: &Drawn,
-    ) -> Result<(), Fault> {
-        let vertices = &drawn.vertices;
-        let inserted = &mut self.triangulation;
-        let _ = add_joins(
-            alloc,
-            inserted,
-            vertices,
-            &task.constraints,
-            arguments.constraints,
-        )?;
-        let sides = add_joins(alloc, inserted, vertices, &task.outline, arguments.outline)?;
-        self.part(alloc, &sides, arguments.outline)
-    }
-
-    /// Notes which edges are marked, and what is inside the outline with these sides, if there is one.
-    fn part(&mut self, alloc: Global, sides: &[Segment], path: Option<&str>) -> Result<(), Fault> {
-        self.is_marked = marks(alloc, &self.triangulation)?;
-        if path.is_some() {
-            self.inside = Some(inside_of(alloc, &self.triangulation, sides, path)?);
-        }
-        Ok(())
+    ) -> Result<Self, Fault>
+        ensures triangles { IfOk result (λ c. (points : List Point) → NumbersVertices (mesh_in drawn.now.triangulation) points drawn.now.numbers.items
+            → AnswersEach (StandsThere (mesh_in drawn.now.triangulation)) points drawn.now.vertices.items
+            → AreConstrainedTriangles points drawn.now.vertices.items (segments_of task.now.constraints.items task.now.outline.items) (marked_mesh c.triangulation) drawn.now.numbers.items) }
+        ensures all { IfOk result (λ c. arguments.now.outline ≡ None → c.inside ≡ None) }
+        ensures inside { IfOk result (λ c. ¬ (arguments.now.outline ≡ None)
+            → IsInsideOf (marked_mesh c.triangulation) drawn.now.vertices.items (map segment_of task.now.outline.items) c.inside) }
+    {
+        let triangulation = triangulation_of(alloc, arguments, task, drawn)?;
+        let inside = inside_of(alloc, arguments, task, drawn, &triangulation)?;
+        let is_marked = marks(alloc, &triangulation)?;
+        Ok(Constrained {
+            triangulation,
+            is_marked,
+            inside,
+        })
     }
 
     /// Returns what is written and drawn of it.
-    pub fn view<'a>(&'a self, task: &'a Task, drawn: &'a Drawn) -> View<'a, Mark> {
+    pub fn view<'a>(&'a self, task: &'a Task, drawn: &'a Drawn) -> View<'a, Mark>
+        ensures mesh { result.mesh.now ≡ marked_mesh self.now.triangulation }
+        ensures numbers { result.numbers.now ≡ drawn.now.numbers.items }
+        ensures inside { option_copied result.inside ≡ self.now.inside }
+    {
         View {
             mesh: self.triangulation.dcel(),
             numbers: &drawn.numbers,
@@ -92,53 +77,84 @@ impl Constrained {
     }
 }
 
-/// Makes constraints of the segments that a file joins, one after another, and returns them.
-fn add_joins(
+/// Makes constraints of the segments that the files join.
+fn triangulation_of(
     alloc: Global,
-    triangulation: &mut ConstrainedTriangulation,
-    vertices: &[Option<FixedVertexHandle>],
-    joins: &[Join],
-    path: Option<&str>,
-) -> Result<Vec<Segment>, Fault> {
-    let mut segments = Vec::with_capacity(alloc, joins.len())?;
-    for join in joins {
-        let segment = add_join(triangulation, vertices, join).map_err(|fault| in_file(
-            alloc, path, fault,
-        ))?;
-        segments.push(segment)?;
-    }
-    Ok(segments)
-}
-
-/// Makes a constraint of the segment that a line joins, and returns it.
-fn add_join(
-    triangulation: &mut ConstrainedTriangulation,
-    vertices: &[Option<FixedVertexHandle>],
-    join: &Join,
-) -> Result<Segment, Fault> {
-    let segment = Segment::of(join, vertices)?;
+    arguments: &Arguments,
+    task: &Task,
+    drawn: &Drawn,
+) -> Result<ConstrainedTriangulation, Fault>
+    ensures { IfOk result (λ t. (points : List Point) → NumbersVertices (mesh_in drawn.now.triangulation) points drawn.now.numbers.items
+        → AnswersEach (StandsThere (mesh_in drawn.now.triangulation)) points drawn.now.vertices.items
+        → AreConstrainedTriangles points drawn.now.vertices.items (segments_of task.now.constraints.items task.now.outline.items) (marked_mesh t) drawn.now.numbers.items) }
+{
     // It is whole unless memory ran out.
-    if !triangulation.is_whole() {
+    if !drawn.triangulation.is_whole() {
         return Err(Fault::Input(Wrong::Insertion(InsertionError::Unfinished)));
     }
-    if !triangulation.can_add_constraint(segment.from, segment.to) {
-        return Err(Fault::Line {
-            line: join.line,
-            wrong: Wrong::Crossing,
-        });
+    let segments = segments_of(alloc, &task.constraints, &task.outline)?;
+    match constrain(alloc, &drawn.triangulation, &drawn.vertices, &segments) {
+        Ok(triangulation) => Ok(triangulation),
+        Err(error) => Err(fault_of(alloc, arguments, task, error)),
     }
-    triangulation.add_constraint(segment.from, segment.to)?;
-    Ok(segment)
 }
 
-/// Returns what is inside the outline of a file.
+/// Returns the fault for segments that can't all be constraints.
+fn fault_of(alloc: Global, arguments: &Arguments, task: &Task, error: SegmentError) -> Fault {
+    match error {
+        SegmentError::NoVertex(number) => {
+            at_line(alloc, arguments, task, number, Wrong::RemovedPoint)
+        }
+        SegmentError::OneVertex(number) => at_line(alloc, arguments, task, number, Wrong::OnePoint),
+        SegmentError::Crosses(number) => at_line(alloc, arguments, task, number, Wrong::Crossing),
+        SegmentError::OutOfMemory => Fault::OutOfMemory(AllocError),
+    }
+}
+
+/// Returns what is wrong with the line that joins the segment of this number: constraints come
+/// first, then sides of the outline.
+fn at_line(
+    alloc: Global,
+    arguments: &Arguments,
+    task: &Task,
+    number: usize,
+    wrong: Wrong,
+) -> Fault {
+    if let Some(join) = task.constraints.get(number) {
+        let line = join.line;
+        return in_file(alloc, arguments.constraints, Fault::Line { line, wrong });
+    }
+    match task
+        .outline
+        .get(number.saturating_sub(task.constraints.len()))
+    {
+        Some(join) => {
+            let line = join.line;
+            in_file(alloc, arguments.outline, Fault::Line { line, wrong })
+        }
+        None => Fault::Input(wrong),
+    }
+}
+
+/// Returns what is inside the outline, if there is one.
 fn inside_of(
     alloc: Global,
+    arguments: &Arguments,
+    task: &Task,
+    drawn: &Drawn,
     triangulation: &ConstrainedTriangulation,
-    sides: &[Segment],
-    path: Option<&str>,
-) -> Result<Inside, Fault> {
-    inside(alloc, triangulation.dcel(), sides).map_err(|fault| in_file(alloc, path, fault))
+) -> Result<Option<Inside>, Fault>
+    ensures all { IfOk result (λ inside. arguments.now.outline ≡ None → inside ≡ None) }
+    ensures inside { IfOk result (λ inside. ¬ (arguments.now.outline ≡ None)
+        → IsInsideOf (marked_mesh triangulation.now) drawn.now.vertices.items (map segment_of task.now.outline.items) inside) }
+{
+    if arguments.outline.is_none() {
+        return Ok(None);
+    }
+    match inside(alloc, triangulation.dcel(), &drawn.vertices, &task.outline) {
+        Ok(inside) => Ok(Some(inside)),
+        Err(fault) => Err(in_file(alloc, arguments.outline, fault)),
+    }
 }
 
 /// Tells of each edge whether it is marked.

@@ -1,11 +1,12 @@
 //! A triangulation as it is written and drawn.
 
-ghost use Rattle.std.specs.Prelude.{◌≡◌, IfOk, List, None};
+ghost use Rattle.std.specs.Prelude.{◌≡◌, IfOk, List, None, Some, map};
 ghost use Rattle.dcel_planar.specs.Outcomes.{IsWholeMesh};
+ghost use Rattle.dcel_delaunay.specs.Bulk.{StandAt};
 ghost use Rattle.dcel_delaunay.specs.Triangulated.{mesh_in};
 ghost use Rattle.dcel_predicates.specs.declared.point.Point.{Point};
 ghost use Rattle.dcel_output.specs.Numbering.{NumbersVertices};
-ghost use Rattle.delaunay.specs.Answers.{IsDrawn};
+ghost use Rattle.delaunay.specs.Answers.{HasConstraints, HasVertices, IsDrawn};
 
 use crate::arguments::Arguments;
 use crate::fault::Fault;
@@ -52,8 +53,10 @@ pub fn all_there(
     arguments: &Arguments,
     inserted: Triangulated,
 ) -> Result<Drawn, Fault>
-    ensures { IfOk result (λ drawn. (points : List Point) → IsWholeMesh inserted.triangulation.planar
+    ensures drawn { IfOk result (λ drawn. (points : List Point) → IsWholeMesh inserted.triangulation.planar
         → NumbersVertices (mesh_in inserted.triangulation) points inserted.numbers.items → IsDrawn points drawn) }
+    ensures vertices { IfOk result (λ drawn. (points : List Point) → StandAt (mesh_in inserted.triangulation) points inserted.vertices.items
+        → HasConstraints arguments.now → HasVertices points drawn) }
 {
     let vertices = vertices_asked_for(alloc, arguments, &inserted.vertices)?;
     Ok(Drawn {
@@ -68,12 +71,26 @@ fn vertices_asked_for(
     alloc: Global,
     arguments: &Arguments,
     vertices: &[FixedVertexHandle],
-) -> Result<Vec<Option<FixedVertexHandle>>, AllocError> {
-    let mut all = Vec::new(alloc);
+) -> Result<Vec<Option<FixedVertexHandle>>, AllocError>
+    ensures { IfOk result (λ all. HasConstraints arguments.now → all.items ≡ map Some vertices.now) }
+{
     if arguments.has_constraints() {
-        for vertex in vertices {
-            all.push(Some(*vertex))?;
-        }
+        each_there(alloc, vertices)
+    } else {
+        Ok(Vec::new(alloc))
+    }
+}
+
+/// Returns that each of these vertices is there.
+fn each_there(
+    alloc: Global,
+    vertices: &[FixedVertexHandle],
+) -> Result<Vec<Option<FixedVertexHandle>>, AllocError>
+    ensures { IfOk result (λ all. all.items ≡ map Some vertices.now) }
+{
+    let mut all = Vec::with_capacity(alloc, vertices.len())?;
+    for vertex in vertices {
+        all.push(Some(*vertex))?;
     }
     Ok(all)
 }

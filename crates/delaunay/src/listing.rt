@@ -1,7 +1,8 @@
 //! Lists of what is shown.
 
-ghost use Rattle.std.specs.Prelude.{◌≡◌, IfOk, None};
+ghost use Rattle.std.specs.Prelude.{◌≡◌, IfOk, option_copied};
 ghost use Rattle.dcel_output.specs.Numbering.{triangles_numbered};
+ghost use Rattle.delaunay.specs.Answers.{shown};
 
 use crate::view::View;
 use dcel_delaunay::Triangle;
@@ -11,7 +12,7 @@ use std::alloc::{AllocError, Global};
 
 /// Lists the triangles that are shown.
 pub fn shown_triangles<UE>(alloc: Global, view: &View<'_, UE>) -> Result<Vec<Triangle>, AllocError>
-    ensures { IfOk result (λ list. view.now.inside ≡ None → list.items ≡ triangles_numbered view.now.mesh.now view.now.numbers.now) }
+    ensures { IfOk result (λ list. list.items ≡ shown (option_copied view.now.inside) (triangles_numbered view.now.mesh.now view.now.numbers.now)) }
 {
     let all = numbered_triangles(alloc, view.mesh, view.numbers)?;
     match view.inside {

@@ -1,45 +1,35 @@
-//! Segments between vertices.
+//! Segments between points, as lines join them.
 
-use crate::fault::{Fault, Wrong};
+ghost use Rattle.std.specs.Prelude.{◌≡◌, ◌++◌, IfOk, OnOk, map};
+ghost use Rattle.delaunay.specs.Segments.{segment_of, segments_of};
+
 use crate::joins::Join;
-use spade_dcel::handles::FixedVertexHandle;
+use dcel_constrained::Segment;
+use std::alloc::{AllocError, Global};
 
-/// A segment between two vertices, which a line joins.
-#[derive(Clone, Copy)]
-pub struct Segment {
-    /// Where it begins.
-    pub from: FixedVertexHandle,
-    /// Where it ends.
-    pub to: FixedVertexHandle,
-    /// The line that says so.
-    pub line: usize,
+/// Lists the segments that lines join, and then those that other lines join.
+pub fn segments_of(
+    alloc: Global,
+    joins: &[Join],
+    others: &[Join],
+) -> Result<Vec<Segment>, AllocError>
+    ensures { IfOk result (λ list. list.items ≡ segments_of joins.now others.now) }
+{
+    let mut list = Vec::new(alloc);
+    add_segments(&mut list, joins)?;
+    add_segments(&mut list, others)?;
+    Ok(list)
 }
 
-impl Segment {
-    /// Returns the segment between the vertices at which two points stand.
-    pub fn of(join: &Join, vertices: &[Option<FixedVertexHandle>]) -> Result<Self, Fault> {
-        let line = join.line;
-        match ends(join, vertices) {
-            Ok((from, to)) => Ok(Segment { from, to, line }),
-            Err(wrong) => Err(Fault::Line { line, wrong }),
-        }
+/// Appends the segments that lines join.
+fn add_segments(list: &mut Vec<Segment>, joins: &[Join]) -> Result<(), AllocError>
+    ensures { OnOk result (list.new.items ≡ list.old.items ++ map segment_of joins.now) }
+{
+    for join in joins {
+        list.push(Segment {
+            from: join.from,
+            to: join.to,
+        })?;
     }
-}
-
-/// Returns the vertices at which two points stand, or what is wrong with them.
-fn ends(
-    join: &Join,
-    vertices: &[Option<FixedVertexHandle>],
-) -> Result<(FixedVertexHandle, FixedVertexHandle), Wrong> {
-    let from = vertex_of(vertices, join.from).ok_or(Wrong::RemovedPoint)?;
-    let to = vertex_of(vertices, join.to).ok_or(Wrong::RemovedPoint)?;
-    if from == to {
-        return Err(Wrong::OnePoint);
-    }
-    Ok((from, to))
-}
-
-/// Returns the vertex at which a point stands, unless it is removed.
-fn vertex_of(vertices: &[Option<FixedVertexHandle>], point: usize) -> Option<FixedVertexHandle> {
-    vertices.get(point).copied().flatten()
+    Ok(())
 }

@@ -2,9 +2,10 @@
 
 ghost use Rattle.std.specs.Prelude.{◌≡◌, IfOk, None};
 ghost use Rattle.dcel_planar.specs.Outcomes.{IsWholeMesh};
+ghost use Rattle.dcel_delaunay.specs.Bulk.{StandAt};
 ghost use Rattle.dcel_delaunay.specs.Triangulated.{mesh_in};
 ghost use Rattle.dcel_output.specs.Numbering.{NumbersVertices};
-ghost use Rattle.delaunay.specs.Answers.{IsDrawn};
+ghost use Rattle.delaunay.specs.Answers.{HasConstraints, HasVertices, IsDrawn};
 
 use crate::arguments::Arguments;
 use crate::drawn::{Drawn, all_there};
@@ -26,7 +27,8 @@ pub fn triangulate(
     arguments: &Arguments,
     task: &Task,
 ) -> Result<Drawn, Fault>
-    ensures { IfOk result (λ drawn. arguments.now.remove ≡ None → IsDrawn task.now.points.items drawn) }
+    ensures drawn { IfOk result (λ drawn. arguments.now.remove ≡ None → IsDrawn task.now.points.items drawn) }
+    ensures vertices { IfOk result (λ drawn. arguments.now.remove ≡ None → HasConstraints arguments.now → HasVertices task.now.points.items drawn) }
 {
     let start = Instant::now(rt)?;
     let inserted = insert_all(rt, progress, &task.points)?;
@@ -58,6 +60,7 @@ fn insert_all(
 ) -> Result<Triangulated, Fault>
     ensures whole { IfOk result (λ t. IsWholeMesh t.triangulation.planar) }
     ensures numbered { IfOk result (λ t. NumbersVertices (mesh_in t.triangulation) points.now t.numbers.items) }
+    ensures stand { IfOk result (λ t. StandAt (mesh_in t.triangulation) points.now t.vertices.items) }
 {
     let all = points.len();
     progress.show(rt, 0, all, "points")?;

@@ -1,9 +1,10 @@
 //! What is written to standard output.
 
-ghost use Rattle.std.specs.Prelude.{◌≡◌, ◌++◌, None, OnOk, Some};
+ghost use Rattle.std.specs.Prelude.{◌≡◌, ◌++◌, None, OnOk, Some, option_copied};
 ghost use Rattle.std.specs.Io.KnownBytes.{Appends};
 ghost use Rattle.dcel_output.specs.Lines.{lines_of, nearest_line, triangle_line};
 ghost use Rattle.dcel_output.specs.Numbering.{triangles_numbered};
+ghost use Rattle.delaunay.specs.Answers.{shown};
 
 use crate::arguments::Output;
 use crate::listing::{shown_edges, shown_neighbors, shown_triangles};
@@ -23,8 +24,8 @@ pub fn write_all<W: Write, UE>(
     view: &View<'_, UE>,
     nearest: &[Option<u32>],
 ) -> io::Result<()>
-    ensures triangles { OnOk result (output ≡ Some Output.Triangles → view.now.inside ≡ None → Appends (W.contents writer.old) (W.contents writer.new)
-        (lines_of triangle_line (triangles_numbered view.now.mesh.now view.now.numbers.now) ++ lines_of nearest_line nearest.now)) }
+    ensures triangles { OnOk result (output ≡ Some Output.Triangles → Appends (W.contents writer.old) (W.contents writer.new)
+        (lines_of triangle_line (shown (option_copied view.now.inside) (triangles_numbered view.now.mesh.now view.now.numbers.now)) ++ lines_of nearest_line nearest.now)) }
     ensures nearest { OnOk result (output ≡ None → Appends (W.contents writer.old) (W.contents writer.new) (lines_of nearest_line nearest.now)) }
 {
     match output {
@@ -41,8 +42,8 @@ fn write_both<W: Write, UE>(
     view: &View<'_, UE>,
     nearest: &[Option<u32>],
 ) -> io::Result<()>
-    ensures { OnOk result (output ≡ Output.Triangles → view.now.inside ≡ None → Appends (W.contents writer.old) (W.contents writer.new)
-        (lines_of triangle_line (triangles_numbered view.now.mesh.now view.now.numbers.now) ++ lines_of nearest_line nearest.now)) }
+    ensures { OnOk result (output ≡ Output.Triangles → Appends (W.contents writer.old) (W.contents writer.new)
+        (lines_of triangle_line (shown (option_copied view.now.inside) (triangles_numbered view.now.mesh.now view.now.numbers.now)) ++ lines_of nearest_line nearest.now)) }
 {
     write_output(alloc, writer, output, view)?;
     dcel_output::write_nearest(writer, nearest)
@@ -55,8 +56,8 @@ pub fn write_output<W: Write, UE>(
     output: Output,
     view: &View<'_, UE>,
 ) -> io::Result<()>
-    ensures { OnOk result (output ≡ Output.Triangles → view.now.inside ≡ None → Appends (W.contents writer.old) (W.contents writer.new)
-        (lines_of triangle_line (triangles_numbered view.now.mesh.now view.now.numbers.now))) }
+    ensures { OnOk result (output ≡ Output.Triangles → Appends (W.contents writer.old) (W.contents writer.new)
+        (lines_of triangle_line (shown (option_copied view.now.inside) (triangles_numbered view.now.mesh.now view.now.numbers.now)))) }
 {
     match output {
         Output::Triangles => write_triangles(alloc, writer, view),
@@ -77,8 +78,7 @@ fn write_triangles<W: Write, UE>(
     writer: &mut W,
     view: &View<'_, UE>,
 ) -> io::Result<()>
-    ensures { OnOk result (view.now.inside ≡ None → Appends (W.contents writer.old) (W.contents writer.new)
-        (lines_of triangle_line (triangles_numbered view.now.mesh.now view.now.numbers.now))) }
+    ensures { OnOk result (Appends (W.contents writer.old) (W.contents writer.new) (lines_of triangle_line (shown (option_copied view.now.inside) (triangles_numbered view.now.mesh.now view.now.numbers.now)))) }
 {
     let triangles = shown_triangles(alloc, view)?;
     dcel_output::write_triangles(writer, &triangles)

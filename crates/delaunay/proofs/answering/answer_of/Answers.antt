@@ -1,8 +1,9 @@
-use Rattle.std.proofs.Common.{◌∙◌, List, ℕ, Option, subst}
+use Rattle.std.proofs.Common.{◌∙◌, inl, List, ℕ, Option, subst}
 use Rattle.std.proofs.lemmas.Result.{on_ok_weaker}
 use Rattle.dcel_delaunay.specs.Bulk.{AnswersEach}
 use Rattle.dcel_delaunay.proofs.listing.Known.{Points}
 use Rattle.dcel_output.specs.Numbering.{IsNearestNumbered}
+use Rattle.delaunay.proofs.Constraining.{without_rest}
 use Rattle.delaunay.proofs.Written.{nearest_written, triangles_written}
 use Rattle.delaunay.proofs.answering.answer_of.Goals as goal
 
@@ -27,3 +28,17 @@ returns-clause-nearest g c =
     (c.nearest_numbers_are_nearest.ensures points numbers drawn.whole drawn.numbered)
     (rw c.deref.ensures.value (c.in_ok-nearest.ensures.each asks.nearest)) (text asks.plain asks.output))
     c.write_found.ensures.nearest
+
+pub returns-clause-constrained : goal.returns-clause-constrained
+returns-clause-constrained g c =
+    on_ok_weaker c.write_found.result
+    (λ text asks drawn vertices. without_rest _ c.deref.result.now _ _ (c.deref.ensures.value ∙ c.in_ok-nearest.ensures.none asks.nearest)
+    (text asks.output (inl asks.constraints) asks.outline c.args.task.now.points.items drawn vertices))
+    c.write_found.ensures.constrained
+
+pub returns-clause-inside : goal.returns-clause-inside
+returns-clause-inside g c =
+    on_ok_weaker c.write_found.result
+    (λ text asks drawn vertices. without_rest _ c.deref.result.now _ _ (c.deref.ensures.value ∙ c.in_ok-nearest.ensures.none asks.nearest)
+    (text asks.output asks.outline c.args.task.now.points.items drawn vertices))
+    c.write_found.ensures.inside
