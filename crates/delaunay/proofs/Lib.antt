@@ -1,2 +1,2 @@
-pub mod Constraining
+pub mod Confined
 pub mod Written
