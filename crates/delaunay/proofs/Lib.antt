@@ -1,2 +1,2 @@
-pub mod Confined
+pub mod Marked
 pub mod Written

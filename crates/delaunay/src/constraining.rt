@@ -148,12 +148,12 @@ fn inside_of(
     ensures inside { IfOk result (λ inside. ¬ (arguments.now.outline ≡ None)
         → IsInsideOf (marked_mesh triangulation.now) drawn.now.vertices.items (map segment_of task.now.outline.items) inside) }
 {
-    if arguments.outline.is_none() {
-        return Ok(None);
-    }
-    match inside(alloc, triangulation.dcel(), &drawn.vertices, &task.outline) {
-        Ok(inside) => Ok(Some(inside)),
-        Err(fault) => Err(in_file(alloc, arguments.outline, fault)),
+    match arguments.outline {
+        None => Ok(None),
+        Some(path) => match inside(alloc, triangulation.dcel(), &drawn.vertices, &task.outline) {
+            Ok(inside) => Ok(Some(inside)),
+            Err(fault) => Err(in_file(alloc, Some(path), fault)),
+        },
     }
 }
 

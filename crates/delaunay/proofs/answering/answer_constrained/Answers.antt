@@ -1,9 +1,7 @@
-use Rattle.std.proofs.Common.{refl}
 use Rattle.std.proofs.lemmas.Result.{on_ok_weaker}
 use Rattle.dcel_constrained.specs.Constrained.{marked_mesh}
 use Rattle.dcel_output.specs.Lines.{lines_of, nearest_line}
-use Rattle.delaunay.proofs.Confined.{constrained_written, inside_written}
-use Rattle.delaunay.specs.Segments.{segment_of, segments_of}
+use Rattle.delaunay.proofs.Marked.{constrained_written, inside_written}
 use Rattle.delaunay.proofs.answering.answer_constrained.Goals as goal
 
 pub returns-clause-constrained : goal.returns-clause-constrained

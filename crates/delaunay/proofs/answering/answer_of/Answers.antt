@@ -3,7 +3,7 @@ use Rattle.std.proofs.lemmas.Result.{on_ok_weaker}
 use Rattle.dcel_delaunay.specs.Bulk.{AnswersEach}
 use Rattle.dcel_delaunay.proofs.listing.Known.{Points}
 use Rattle.dcel_output.specs.Numbering.{IsNearestNumbered}
-use Rattle.delaunay.proofs.Confined.{without_rest}
+use Rattle.delaunay.proofs.Marked.{without_rest}
 use Rattle.delaunay.proofs.Written.{nearest_written, triangles_written}
 use Rattle.delaunay.proofs.answering.answer_of.Goals as goal
 

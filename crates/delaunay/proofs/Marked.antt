@@ -1,5 +1,5 @@
 -- What is written of a constrained triangulation.
-use Rattle.std.proofs.Common.{◌≡◌, ◌∙◌, ℕ, ◌<◌, List, [], ◌++◌, Option, None, Some, length, map, slice_get, refl, sym, ap, subst, append-nil}
+use Rattle.std.proofs.Common.{◌≡◌, ◌∙◌, ℕ, List, [], ◌++◌, Option, None, Some, length, map, slice_get, refl, sym, ap, subst, append-nil}
 use Rattle.std.proofs.lemmas.List.{length-map}
 use Rattle.std.specs.Io.KnownBytes.{Appends}
 use Rattle.dcel_predicates.specs.declared.point.Point.{Point}
@@ -25,17 +25,17 @@ stand_some m points vertices all stand is = record {
       subst (StandsThere m p) (sym {b = Some found.0} found.2) (stand.each i p found.0 at found.1);
 }
 
-abbrev Marked : Type 0
-Marked = Mesh Point (Unit {0}) Mark (Unit {0})
+abbrev MarkedPoints : Type 0
+MarkedPoints = Mesh Point (Unit {0}) Mark (Unit {0})
 
-module _ (old new : Option (List ℕ)) (k m : Marked) (ns numbers : List ℕ) (seen inside : Option Inside) (near : List ℕ) (same : k ≡ m) (also : ns ≡ numbers) (within : seen ≡ inside) where
+module _ (old new : Option (List ℕ)) (k m : MarkedPoints) (ns numbers : List ℕ) (seen inside : Option Inside) (near : List ℕ) (same : k ≡ m) (also : ns ≡ numbers) (within : seen ≡ inside) where
   -- the triangles of the mesh that a view shows
   told : Appends old new (lines_of triangle_line (shown seen (triangles_numbered k ns)) ++ near)
       → Appends old new (lines_of triangle_line (shown inside (triangles_numbered m numbers)) ++ near)
   told text =
       subst (λ (x : Option Inside). Appends old new (lines_of triangle_line (shown x (triangles_numbered m numbers)) ++ near)) within
       (subst (λ (x : List ℕ). Appends old new (lines_of triangle_line (shown seen (triangles_numbered m x)) ++ near)) also
-      (subst (λ (x : Marked). Appends old new (lines_of triangle_line (shown seen (triangles_numbered x ns)) ++ near)) same text))
+      (subst (λ (x : MarkedPoints). Appends old new (lines_of triangle_line (shown seen (triangles_numbered x ns)) ++ near)) same text))
 
   module _ (points : List Point) (vertices : List (Option ℕ)) (segments : List Segment) (are : AreConstrainedTriangles points vertices segments m numbers)
       (text : Appends old new (lines_of triangle_line (shown seen (triangles_numbered k ns)) ++ near)) where
