@@ -4,10 +4,12 @@ use Rattle.std.specs.Io.KnownBytes.{Appends}
 use Rattle.dcel_predicates.specs.declared.point.Point.{Point}
 use Rattle.dcel_delaunay.specs.Bulk.{AnswersEach}
 use Rattle.dcel_delaunay.specs.Triangles.{AreDelaunayTriangles}
+use Rattle.dcel_delaunay.specs.declared.triangles.triangle.Triangle.{Triangle}
 use Rattle.dcel_delaunay.proofs.listing.Known.{Points}
 use Rattle.dcel_output.specs.Lines.{lines_of, nearest_line, triangle_line}
 use Rattle.dcel_output.specs.Numbering.{IsNearestNumbered, IsNearestPoint, triangles_numbered}
-use Rattle.delaunay.specs.Answers.{WritesNearest, WritesTriangles}
+use Rattle.delaunay.specs.Answers.{WritesNearest, WritesTriangles, shown}
+use Rattle.delaunay.specs.declared.view.Inside.{Inside}
 
 -- what is so of any value is so of the one in a result, if there is one
 pub any_ok : {T E : Type 0} (r : Result T E) (P : T → Type 0) → ((x : T) → P x) → IfOk r P
@@ -39,3 +41,8 @@ pub seen_written : (old new : Option (List ℕ)) (k m : Points) (ns numbers : Li
 seen_written old new k m ns numbers near same also text =
     subst (λ (x : List ℕ). Appends old new (lines_of triangle_line (triangles_numbered m x) ++ near)) also
     (subst (λ (x : Points). Appends old new (lines_of triangle_line (triangles_numbered x ns) ++ near)) same text)
+
+-- all triangles are shown where there is no outline
+pub all_shown : (old new : Option (List ℕ)) (inside : Option Inside) (triangles : List Triangle) (near : List ℕ) → inside ≡ None
+    → Appends old new (lines_of triangle_line (shown inside triangles) ++ near) → Appends old new (lines_of triangle_line triangles ++ near)
+all_shown old new inside triangles near none = subst (λ (x : Option Inside). Appends old new (lines_of triangle_line (shown x triangles) ++ near)) none

@@ -1,8 +1,9 @@
-use Rattle.std.proofs.Common.{inl, inr}
+use Rattle.std.proofs.Common.{ap, inl, inr, option_copied}
 use Rattle.std.proofs.lemmas.Result.{on_ok_weaker}
 use Rattle.dcel_delaunay.proofs.listing.Known.{Points}
 use Rattle.dcel_output.specs.Lines.{lines_of, nearest_line}
-use Rattle.delaunay.proofs.Written.{any_ok, seen_written}
+use Rattle.dcel_output.specs.Numbering.{triangles_numbered}
+use Rattle.delaunay.proofs.Written.{all_shown, any_ok, seen_written}
 use Rattle.delaunay.proofs.answering.write_found.Goals as goal
 
 pub returns-then-has_constraints-clause-triangles : goal.returns-then-has_constraints-clause-triangles
@@ -20,7 +21,9 @@ returns-clause-triangles g c =
     let m : Points = c.args.drawn.now.triangulation.planar.dcel in
     on_ok_weaker c.write_drawn.result
     (λ text plain is. seen_written _ _ c.view.result.mesh.now m c.view.result.numbers.now c.args.drawn.now.numbers.items (lines_of nearest_line c.args.nearest.now)
-    c.view.ensures.mesh c.view.ensures.numbers (rw c.view.ensures.all (text is)))
+    c.view.ensures.mesh c.view.ensures.numbers
+    (all_shown _ _ (option_copied c.view.result.inside) (triangles_numbered c.view.result.mesh.now c.view.result.numbers.now) (lines_of nearest_line c.args.nearest.now)
+    (ap option_copied c.view.ensures.all) (text is)))
     c.write_drawn.ensures.triangles
 
 pub returns-clause-nearest : goal.returns-clause-nearest

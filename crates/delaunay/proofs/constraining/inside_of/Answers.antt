@@ -22,7 +22,7 @@ returns-in-Ok-clause-inside c = λ some.
     let vertices = c.args.drawn.now.vertices.items in (
       c.in-Ok.inside,
       refl,
-      subst (λ (l : List Join). ListsInside m vertices (map segment_of l) flags) c.deref-2.ensures.value
-          (subst (λ (l : List (Option ℕ)). ListsInside m l (map segment_of c.deref-2.result.now) flags) c.deref.ensures.value
-          (subst (λ (k : _). ListsInside k c.deref.result.now (map segment_of c.deref-2.result.now) flags) c.dcel.ensures.mesh c.in-Ok.ensures)),
+      subst (λ (l : List Join). ListsInside m vertices (map segment_of l) flags) c.deref-in-Some.ensures.value
+          (subst (λ (l : List (Option ℕ)). ListsInside m l (map segment_of c.deref-in-Some.result.now) flags) c.deref.ensures.value
+          (subst (λ (k : _). ListsInside k c.deref.result.now (map segment_of c.deref-in-Some.result.now) flags) c.dcel.ensures.mesh c.in-Ok.ensures)),
     )

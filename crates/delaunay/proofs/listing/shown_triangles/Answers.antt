@@ -10,6 +10,6 @@ pub returns-in-Some : goal.returns-in-Some
 returns-in-Some g c =
     rw c.in-Some.is
     (IfOk-weaker c.kept.result _ _
-    (λ list is. is ∙ ap (λ (flags : List Bool). kept flags c.deref.result.now) c.deref-2.ensures.value
+    (λ list is. is ∙ ap (λ (flags : List Bool). kept flags c.deref.result.now) c.deref-in-Some.ensures.value
     ∙ ap (kept c.in-Some.inside.now.triangles.items) (c.deref.ensures.value ∙ c.in_ok-all.ensures))
     c.kept.ensures)
