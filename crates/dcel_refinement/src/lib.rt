@@ -1,9 +1,9 @@
 //! Refinement of constrained Delaunay triangulations: vertices are added until no angle is smaller
-//! and no triangle larger than asked (J. Ruppert, "A Delaunay refinement algorithm for quality
-//! 2-dimensional mesh generation", 1995).
+//! and no triangle larger than asked.
 //!
-//! Start with [`refine`]. It uses only the public calls of `dcel_constrained`. How points are chosen
-//! is not proved: the result is tested in the end, exactly, and that test is.
+//! Start with [`refine`]. It uses only the public calls of `dcel_constrained`. Points are chosen as
+//! by J. Ruppert ("A Delaunay refinement algorithm for quality 2-dimensional mesh generation", 1995).
+//! That choice is not proved: the result is tested in the end, exactly, and that test is.
 #![tactic(auto)]
 
 mod centers;
