@@ -21,11 +21,13 @@ use Rattle.dcel_plane.proofs.edits.Written.{IsWritten, origin_more}
 use Rattle.dcel_plane.specs.covering.Covering.{IsConvex}
 use Rattle.dcel_plane.proofs.covering.Inside.{on_end}
 use Rattle.dcel_plane.proofs.hull.Becomes.{out_outer, put_in, stays_in}
-use Rattle.dcel_plane.proofs.hull.ClosingStep.{step_closing, step_hull, step_thick, turns_nowhere}
+use Rattle.dcel_plane.proofs.hull.ClosingStep.{step_closing, step_hull, step_thick, tip_cases, turns_nowhere}
 use Rattle.dcel_plane.proofs.hull.CornersStay.{after_stays, before_stays}
 use Rattle.dcel_plane.proofs.hull.Step.{IsStep, closed_step}
 use Rattle.dcel_plane.proofs.hull.ThinStays.{thin_after_stays, thin_before_stays}
 use Rattle.dcel_plane.proofs.hull.ThinStep.{step_thin}
+use Rattle.dcel_plane.specs.star.Star.{HasEmptyCirclesBut, HasNoneOnLeft}
+use Rattle.dcel_plane.proofs.star.Outside.{closed_at_end, closed_at_start}
 use Rattle.dcel_planar.specs.Corners.{GoesOnClosing, IsClosedAt, TurnsIn}
 use Rattle.dcel_planar.specs.Growing.{IsOpen, IsTriangleMesh}
 use Rattle.dcel_planar.proofs.Growth.{of_edit}
@@ -40,7 +42,7 @@ some_listed due more items x is none = put_last due more x (sym is ∙ none)
 
 module _ {DE UE F : Type 0} where
   pub goes_on-refl : (m : Mesh Point DE UE F) → GoesOnClosing m m
-  goes_on-refl m = record { open_still = λ t is. is; after = λ t is closed. closed; before = λ t is closed. closed; convex = λ convex. refl }
+  goes_on-refl m = record { open_still = λ t is. is; after = λ t is closed. closed; before = λ t is closed. closed; convex = λ convex. refl; circles = λ t is empty. empty }
 
   pub goes_on-trans : (a b c : Mesh Point DE UE F) → GoesOnClosing a b → GoesOnClosing b c → GoesOnClosing a c
   goes_on-trans a b c first second = record {
@@ -50,6 +52,7 @@ module _ {DE UE F : Type 0} where
     convex = λ convex.
         let same = first.convex convex in
         second.convex (subst (λ (x : Mesh Point DE UE F). IsConvex (point_at x) x.shape) (sym same) convex) ∙ same;
+    circles = λ t is empty. second.circles t (first.open_still t is) (first.circles t is empty);
   }
 
   -- a mesh and a half edge under other names
@@ -92,6 +95,19 @@ module _ {DE UE F : Type 0} where
       ];
     }
 
+    -- the new triangle is one of t, and the old edge in it has no other old vertex on t's side
+    empty_after : (t : ℕ) → IsOpen m t → HasEmptyCirclesBut at m.shape t → HasEmptyCirclesBut at q.shape t
+    empty_after t is empty = elim (tip_cases at m.shape q.shape e t step is.closing turns) [
+      | inl first ↦
+          closed_at_start m mesh at t e empty live halves edges faces first.0
+          (none_left (next_of m.shape e) step.live_x step.on_x (λ on. first.1 (sym step.joined ∙ on)) first.2)
+      | inr last ↦ closed_at_end m mesh at t e empty live halves edges faces last.2 (none_left e live on last.0 last.1)
+    ]
+      where
+        none_left : (h : ℕ) → IsLive m.shape h → face_of m.shape h ≡ 0 → origin_of m.shape h ≢ t → end_of m.shape h ≢ t → HasNoneOnLeft at m.shape t h
+        none_left h live_h on_h not_start not_end k live_k old left =
+            let right = (is.closing.supports h k live_h on_h not_start not_end live_k old).0 in omega (arith, ordered, left, right)
+
     pub closed_goes_on : GoesOnClosing m q
     closed_goes_on = record {
       open_still = open_after;
@@ -104,6 +120,7 @@ module _ {DE UE F : Type 0} where
         | inr thin ↦ thin_before_stays m mesh triangles at plane t is.closing thin e live on turns halves edges faces result closed
       ];
       convex = λ convex. absurd (turns_nowhere m mesh at convex e live on turns);
+      circles = empty_after;
     }
 
     -- the half edge that is on the outer face in the place of both

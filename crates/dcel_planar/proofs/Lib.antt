@@ -2,6 +2,7 @@ pub mod Along
 pub mod Appended
 pub mod Begun
 pub mod Circled
+pub mod Circling
 pub mod Closed
 pub mod Counting
 pub mod Elsewhere
@@ -14,6 +15,7 @@ pub mod Growth
 pub mod Hull
 pub mod OnEdges
 pub mod Opening
+pub mod OthersEmpty
 pub mod Paths
 pub mod Puts
 pub mod Recovered

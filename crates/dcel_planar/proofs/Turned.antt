@@ -51,6 +51,17 @@ module _ {DE UE F : Type 0} where
   pub unturned : (m : Mesh Point DE UE F) → IsTurnedTo m m
   unturned m = record { turned = []; circled = tt; is = refl }
 
+  pub turned_more : (m n : Mesh Point DE UE F) (u : ℕ) → IsTurnedTo m n → IsInner n.shape u → IsCircled (point_at n) n.shape u → IsTurnedTo m (edge_flipped n u)
+  turned_more m n u before inner circled =
+      let at : n ≡ edges_flipped m before.turned = before.is in
+      record {
+        turned = before.turned ++ u ∷ [];
+        circled =
+            circled-append m before.turned u before.circled
+            (subst (λ (k : Mesh Point DE UE F). IsInner k.shape u × IsCircled (point_at k) k.shape u) at (inner, circled));
+        is = ap (λ (k : Mesh Point DE UE F). edge_flipped k u) at ∙ sym (flipped-append m before.turned (u ∷ []));
+      }
+
   -- what is kept of the mesh m and the list that a run began with
   pub record IsUnderWay (m : Mesh Point DE UE F) (list : List ℕ) (n : Mesh Point DE UE F) (rest : List ℕ) : Type 0 where
     pub mesh : IsMesh n
@@ -118,16 +129,7 @@ module _ {DE UE F : Type 0} where
       turns = record {
         mesh = flipped_mesh n u way.mesh can_flip;
         plane = flip_plane n way.mesh u can_flip (point_at n) inner.inner inner.inner_facing circled way.plane;
-        turned =
-            let before = way.turned in
-            let at : n ≡ edges_flipped m before.turned = before.is in
-            record {
-              turned = before.turned ++ u ∷ [];
-              circled =
-                  circled-append m before.turned u before.circled
-                  (subst (λ (k : Mesh Point DE UE F). IsInner k.shape u × IsCircled (point_at k) k.shape u) at (inner, circled));
-              is = ap (λ (k : Mesh Point DE UE F). edge_flipped k u) at ∙ sym (flipped-append m before.turned (u ∷ []));
-            };
+        turned = turned_more m n u way.turned inner circled;
         due = none_lack m (edge_flipped n u) list ((front ++ u ∷ []) ++ sides_beside n.shape u) turns_others;
         others = turns_others;
       }

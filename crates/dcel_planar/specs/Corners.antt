@@ -3,6 +3,7 @@ use Rattle.std.specs.Prelude.{◌≡◌, ◌≤◌, ◌+◌, ◌^◌, ℕ, pos, 
 use Rattle.dcel_maps.specs.Shapes.{Mesh, IsLive, end_of, face_of, next_of, origin_of, prev_of}
 use Rattle.dcel_plane.specs.covering.Covering.{IsConvex}
 use Rattle.dcel_plane.specs.Plane.{point_at}
+use Rattle.dcel_plane.specs.star.Star.{HasEmptyCirclesBut}
 use Rattle.dcel_predicates.specs.declared.point.Point.{Point}
 use Rattle.dcel_predicates.specs.Determinants.{orient2d_of}
 use Rattle.dcel_planar.specs.Growing.{IsOpen}
@@ -28,12 +29,14 @@ module _ {DE UE F : Type 0} where
   IsClosedBefore m t = (h : ℕ) → IsLive m.shape h → face_of m.shape h ≡ 0 → end_of m.shape h ≡ t
       → orient2d_of (point_at m (origin_of m.shape (prev_of m.shape h))) (point_at m (origin_of m.shape h)) (point_at m t) ≤ℤ pos 0
 
-  -- what triangles closed at the hull leave: a hull that is open is still open, with the corners closed that were; a convex one is as it was
+  -- what triangles closed at the hull leave: a hull that is open is still open, with the corners closed that were, and with circles empty but for the
+  -- last vertex if they were; a convex one is as it was
   pub record GoesOnClosing (old new : Mesh Point DE UE F) : Type 0 where
     pub open_still : (t : ℕ) → IsOpen old t → IsOpen new t
     pub after : (t : ℕ) → IsOpen old t → IsClosedAfter old t → IsClosedAfter new t
     pub before : (t : ℕ) → IsOpen old t → IsClosedBefore old t → IsClosedBefore new t
     pub convex : IsConvex (point_at old) old.shape → new ≡ old
+    pub circles : (t : ℕ) → IsOpen old t → HasEmptyCirclesBut (point_at old) old.shape t → HasEmptyCirclesBut (point_at new) new.shape t
 
   -- one triangle is closed between the outer half edge e and the next one, and h is on the outer face in the place of both
   pub record IsClosedAt (old new : Mesh Point DE UE F) (e h : ℕ) : Type 0 where

@@ -1,6 +1,9 @@
 -- What edits of a planar mesh leave.
 use Rattle.std.specs.Prelude.{◌≡◌, ◌≢◌, ◌⊎◌, ℕ, []}
 use Rattle.dcel_maps.specs.Shapes.{IsLive, Mesh, face_of}
+use Rattle.dcel_plane.specs.covering.Covering.{HasEmptyCircles}
+use Rattle.dcel_plane.specs.Plane.{point_at}
+use Rattle.dcel_plane.specs.star.Star.{HasEmptyCirclesBut}
 use Rattle.dcel_predicates.specs.declared.point.Point.{Point}
 use Rattle.dcel_planar.specs.Corners.{GoesOnClosing}
 use Rattle.dcel_planar.specs.Edges.{KeepsEdges}
@@ -14,6 +17,10 @@ module _ {DE UE F : Type 0} where
   -- all vertices stand on one line, or there is a triangle and the outer face is a convex hull: no hull is to be closed
   abbrev pub IsOutlined : Mesh Point DE UE F → Type 0
   IsOutlined m = IsFlat m ⊎ HasHull m
+
+  -- if no vertex was inside the circle of a triangle, circles are now empty but for the vertex that has the next number
+  abbrev pub KeepsCirclesBut : Mesh Point DE UE F → Mesh Point DE UE F → Type 0
+  KeepsCirclesBut old new = HasEmptyCircles (point_at old) old.shape → HasEmptyCirclesBut (point_at new) new.shape old.shape.vertices
 
   -- the half edge h lies on the outer face
   abbrev pub IsOuter : Mesh Point DE UE F → ℕ → Type 0

@@ -1,6 +1,7 @@
 //! Edges flipped by the circle test, but those that have to stay.
 
 ghost use Rattle.std.specs.Prelude.{◌↔◌, Bool, IsTrue, OnErr, OnOk};
+ghost use Rattle.dcel_plane.specs.Plane.{IsCircled, IsInner, point_at};
 ghost use Rattle.dcel_planar.specs.Growing.{HasHull, IsFlat, IsTriangleMesh, Keeps};
 ghost use Rattle.dcel_planar.specs.Leaving.{IsOutlined};
 ghost use Rattle.dcel_planar.specs.Legalization.{IsToTurn, ListsLoose, TurnsLoose};
@@ -60,12 +61,24 @@ fn is_to_turn<UE: EdgeConstraint, A: Allocator>(
     requires { IsTriangleMesh dcel.now }
     ensures { IsTrue result ↔ IsToTurn UE.is_constraint dcel.now edge }
 {
+    if !is_still_illegal(dcel, edge) {
+        return false;
+    }
+    !dcel.undirected_edge_data(edge).is_constraint()
+}
+
+/// Returns whether an edge that was listed, and may be gone, is between two triangles, the corner of
+/// one inside the circle of the other.
+pub(crate) fn is_still_illegal<UE, A: Allocator>(
+    dcel: &EdgeMesh<UE, A>,
+    edge: FixedUndirectedEdgeHandle,
+) -> bool
+    requires { IsTriangleMesh dcel.now }
+    ensures { IsTrue result ↔ (IsInner dcel.now.shape edge × IsCircled (point_at dcel.now) dcel.now.shape edge) }
+{
     every_mesh(dcel);
     if !dcel.is_live_edge(edge) {
         return false;
     }
-    if !is_illegal(dcel, edge) {
-        return false;
-    }
-    !dcel.undirected_edge_data(edge).is_constraint()
+    is_illegal(dcel, edge)
 }

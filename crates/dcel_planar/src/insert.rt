@@ -5,5 +5,6 @@ mod hull;
 mod line;
 mod place;
 
+pub(crate) use edits::edges_next_to;
 pub use edits::edges_of;
 pub use hull::outside_of;

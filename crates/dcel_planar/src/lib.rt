@@ -25,6 +25,7 @@ mod planes;
 mod points;
 mod position;
 mod rounds;
+mod star;
 mod triangulations;
 
 pub use circles::is_circled;

@@ -4,3 +4,4 @@ pub mod hull
 pub mod removal
 pub mod location
 pub mod segments
+pub mod star

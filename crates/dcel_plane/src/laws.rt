@@ -7,3 +7,4 @@ pub mod hull;
 pub mod location;
 pub mod removal;
 pub mod segments;
+pub mod star;

@@ -13,7 +13,7 @@ ghost use Rattle.dcel_maps.specs.Shapes.{IsLive, IsMesh, face_of, next_of, prev_
 ghost use Rattle.dcel_plane.specs.Edges.{edges_inserted};
 ghost use Rattle.dcel_planar.specs.Edges.{IsSplit, KeepsEdgeData, KeepsEdges};
 ghost use Rattle.dcel_planar.specs.Growing.{Gains, HasHull, IsOpen, IsInsertionReason};
-ghost use Rattle.dcel_planar.specs.Leaving.{IsOutlined, IsNotPut, KeepsDue};
+ghost use Rattle.dcel_planar.specs.Leaving.{IsOutlined, IsNotPut, KeepsCirclesBut, KeepsDue};
 ghost use Rattle.dcel_planar.specs.Places.{IsPlace};
 ghost use Rattle.dcel_planar.specs.declared.position.PositionInTriangulation.TheVariants.{OnEdge, OnFace, OutsideOfConvexHull};
 
@@ -90,7 +90,7 @@ pub fn edges_of<UE, A: Allocator>(
 }
 
 /// Returns the edges after and before a half edge.
-fn edges_next_to<UE, A: Allocator>(
+pub(crate) fn edges_next_to<UE, A: Allocator>(
     dcel: &EdgeMesh<UE, A>,
     edge: FixedDirectedEdgeHandle,
 ) -> [FixedUndirectedEdgeHandle; 2]
@@ -118,6 +118,7 @@ impl<UE: Default, A: Allocator> PlanarMesh<UE, A> {
         ensures lists { KeepsDue self.old self.new }
         ensures edges { OnOk result (KeepsEdges UE.is_default self.old.dcel self.new.dcel) }
         ensures hull { OnOk result (HasHull self.new.dcel) }
+        ensures circles { OnOk result (KeepsCirclesBut self.old.dcel self.new.dcel) }
     {
         every_mesh(&self.dcel);
         if self.due.reserve(3).is_err() {
@@ -150,6 +151,7 @@ impl<UE: Default, A: Allocator> PlanarMesh<UE, A> {
         ensures edge_data { OnOk result (KeepsEdgeData UE.is_default self.old.dcel self.new.dcel) }
         ensures split { IfOk result (IsSplit self.old.dcel self.new.dcel edge) }
         ensures hull { OnOk result (HasHull self.new.dcel) }
+        ensures circles { OnOk result (KeepsCirclesBut self.old.dcel self.new.dcel) }
     {
         every_mesh(&self.dcel);
         if self.due.reserve(8).is_err() {
@@ -191,6 +193,7 @@ impl<UE: Default, A: Allocator> PlanarMesh<UE, A> {
         ensures edge_data { OnOk result (KeepsEdgeData UE.is_default self.old.dcel self.new.dcel) }
         ensures split { IfOk result (IsSplit self.old.dcel self.new.dcel edge) }
         ensures hull { OnOk result (HasHull self.new.dcel) }
+        ensures circles { OnOk result (KeepsCirclesBut self.old.dcel self.new.dcel) }
     {
         every_mesh(&self.dcel);
         if self.due.reserve(5).is_err() {
@@ -227,6 +230,7 @@ impl<UE: Default, A: Allocator> PlanarMesh<UE, A> {
         ensures edges { OnOk result (KeepsEdges UE.is_default self.old.dcel self.new.dcel) }
         ensures open { IfOk result (IsOpen self.new.dcel) }
         ensures listed { OnOk result (self.new.due.items ≢ []) }
+        ensures circles { OnOk result (KeepsCirclesBut self.old.dcel self.new.dcel) }
     {
         every_mesh(&self.dcel);
         if self.due.reserve(3).is_err() {

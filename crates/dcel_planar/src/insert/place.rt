@@ -3,7 +3,7 @@
 ghost use Rattle.std.specs.Prelude.{◌≡◌, IfErr, IfOk, OnErr, OnOk};
 ghost use Rattle.dcel_planar.specs.Edges.{IsSplit, KeepsEdgeData, KeepsEdges, KeepsEnds, KeepsStarts};
 ghost use Rattle.dcel_planar.specs.Growing.{Gains, HasHull, HasOutside};
-ghost use Rattle.dcel_planar.specs.Leaving.{IsOutlined, IsPutIn, IsNotPut, KeepsDue};
+ghost use Rattle.dcel_planar.specs.Leaving.{IsOutlined, IsPutIn, IsNotPut, KeepsCirclesBut, KeepsDue};
 ghost use Rattle.dcel_planar.specs.Outcomes.{FailsToPut};
 ghost use Rattle.dcel_planar.specs.Places.{IsPlace};
 ghost use Rattle.dcel_planar.specs.declared.position.PositionInTriangulation.TheVariants.{OnEdge, OutsideOfConvexHull};
@@ -22,7 +22,8 @@ impl<UE: Default, A: Allocator> PlanarMesh<UE, A> {
     /// the hull all triangles are made that are between the vertex and the hull. The edges of the
     /// triangles that are new or changed are listed. Edges keep their data and their ends, and new
     /// ones have default data; of an edge that the point is on, one part keeps its number, and the
-    /// other is new.
+    /// other is new. If the mesh was Delaunay, [`legalize_star`](Self::legalize_star) makes it Delaunay
+    /// again.
     ///
     /// Asks for a mesh whose hull isn't to be closed ([`close_hull`](Self::close_hull) leaves one if it
     /// succeeds), and for the position of the point, as [`locate`](Self::locate) returns it.
@@ -46,6 +47,7 @@ impl<UE: Default, A: Allocator> PlanarMesh<UE, A> {
         ensures ends { IfOk result (KeepsEnds self.old.dcel self.new.dcel position) }
         ensures starts { OnErr result (KeepsStarts self.old.dcel self.new.dcel) }
         ensures hull { OnOk result (IsOutlined self.new.dcel) }
+        ensures circles { OnOk result (KeepsCirclesBut self.old.dcel self.new.dcel) }
         ensures outside { HasOutside self.new.dcel self.new.due.items }
     {
         match position {
@@ -72,6 +74,7 @@ impl<UE: Default, A: Allocator> PlanarMesh<UE, A> {
         ensures edge_data { OnOk result (KeepsEdgeData UE.is_default self.old.dcel self.new.dcel) }
         ensures split { IfOk result (IsSplit self.old.dcel self.new.dcel edge) }
         ensures hull { OnOk result (IsOutlined self.new.dcel) }
+        ensures circles { OnOk result (KeepsCirclesBut self.old.dcel self.new.dcel) }
     {
         if self.dcel.num_faces() == 1 {
             return self.put_on_line(edge, point);
@@ -99,6 +102,7 @@ impl<UE: Default, A: Allocator> PlanarMesh<UE, A> {
         ensures lists { KeepsDue self.old self.new }
         ensures edges { KeepsEdges UE.is_default self.old.dcel self.new.dcel }
         ensures hull { OnOk result (HasHull self.new.dcel) }
+        ensures circles { OnOk result (KeepsCirclesBut self.old.dcel self.new.dcel) }
         ensures outside { HasOutside self.new.dcel self.new.due.items }
     {
         let vertex = self.put_beside(edge, point)?;

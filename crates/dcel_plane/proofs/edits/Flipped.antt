@@ -47,10 +47,10 @@ module _ {V DE UE F : Type 0} (m : Mesh V DE UE F) (mesh : IsMesh m) (u : ℕ) (
   pub from_start : origin_of s tn ≡ origin_of s e
   from_start = sound.origin-next t facing.live_x ∙ ap (origin_of s) (turn_back e t (rev-double u))
 
-  abbrev words : Patch (List ℕ)
+  abbrev pub words : Patch (List ℕ)
   words = replacing ((f, from_least (e ∷ tp ∷ en ∷ [])) ∷ (g, from_least (t ∷ ep ∷ tn ∷ [])) ∷ [])
 
-  abbrev origins : Patch ℕ
+  abbrev pub origins : Patch ℕ
   origins = replacing ((e, origin_of s ep) ∷ (t, origin_of s tp) ∷ [])
 
   pub flip_written : IsWritten s n words origins

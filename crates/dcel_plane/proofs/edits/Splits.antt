@@ -77,7 +77,7 @@ module _ {V DE UE F : Type 0} (m : Mesh V DE UE F) (mesh : IsMesh m) (e middle :
   abbrev pub split_origins : Patch ℕ
   split_origins = record { set = (t, middle) ∷ []; more = origin_of s tp ∷ middle ∷ end ∷ middle ∷ origin_of s ep ∷ middle ∷ [] }
 
-  split_written : IsWritten s r split_words split_origins
+  pub split_written : IsWritten s r split_words split_origins
   split_written = record {
     words_are = refl;
     origins_are = refl;
@@ -112,7 +112,7 @@ module _ {V DE UE F : Type 0} (m : Mesh V DE UE F) (mesh : IsMesh m) (e middle :
   abbrev pub half_origins : Patch ℕ
   half_origins = record { set = (t, middle) ∷ []; more = origin_of s ep ∷ middle ∷ middle ∷ end ∷ [] }
 
-  half_written : IsWritten s q half_words half_origins
+  pub half_written : IsWritten s q half_words half_origins
   half_written = record {
     words_are = refl;
     origins_are = refl;

@@ -1,14 +1,8 @@
 use Rattle.std.proofs.lemmas.Bool.{false≢true}
-use Rattle.dcel_planar.proofs.Circled.{all_between}
 use Rattle.dcel_planar.proofs.flips.is_to_turn.Goals as goal
 
-pub returns-then-not-is_live_edge : goal.returns-then-not-is_live_edge
-returns-then-not-is_live_edge g c = (
+pub returns-then-not-is_still_illegal : goal.returns-then-not-is_still_illegal
+returns-then-not-is_still_illegal g c = (
   λ no. absurd (false≢true no),
-  λ is. let live = is.inner.live in let told = c.is_live_edge.ensures in let no = c.if-not-is_live_edge.true in cc,
+  λ is. let told = c.is_still_illegal.ensures.1 (is.inner, is.circled) in let no = c.if-not-is_still_illegal.true in cc,
 )
-
-pub is_illegal-requires-clause-sides : goal.is_illegal-requires-clause-sides
-is_illegal-requires-clause-sides g c =
-    all_between c.args.dcel.now c.every_mesh.ensures c.args.edge c.requires.triangles
-    (let told = c.is_live_edge.ensures in let yes = c.if-not-is_live_edge.false in cc)

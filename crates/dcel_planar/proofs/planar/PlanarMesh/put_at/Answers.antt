@@ -6,6 +6,7 @@ use Rattle.dcel_planar.proofs.Ends.{same_edges, same_starts, starts_on_ok}
 use Rattle.dcel_planar.proofs.Whole.{on_err}
 use Rattle.dcel_planar.proofs.Whole.{either_outside, put_either}
 use Rattle.dcel_planar.proofs.Refused.{put_refused, refused_mesh}
+use Rattle.dcel_planar.proofs.OthersEmpty.{alone_empty, ok_anyhow, stays_empty}
 use Rattle.dcel_planar.proofs.planar.PlanarMesh.put_at.Goals as goal
 
 pub returns-in-OnVertex-clause-edge_data : goal.returns-in-OnVertex-clause-edge_data
@@ -96,3 +97,12 @@ returns-in-BeyondLine-clause-refuses g c = put_refused c.args.self.now c.put_bey
 
 pub returns-in-NoTriangulation-clause-refuses : goal.returns-in-NoTriangulation-clause-refuses
 returns-in-NoTriangulation-clause-refuses g c = put_refused c.args.self.now c.put_first.new.self c.args.point c.put_first.result c.put_first.ensures.refused
+
+pub returns-in-OnVertex-clause-circles : goal.returns-in-OnVertex-clause-circles
+returns-in-OnVertex-clause-circles g c = stays_empty c.args.self.now.dcel c.args.self.now.dcel refl
+
+pub returns-in-BeyondLine-clause-circles : goal.returns-in-BeyondLine-clause-circles
+returns-in-BeyondLine-clause-circles g c = let put = c.put_beyond in ok_anyhow put.result (λ empty. alone_empty put.new.self.dcel c.args.self.now.dcel.shape.vertices put.ensures.flat.alone)
+
+pub returns-in-NoTriangulation-clause-circles : goal.returns-in-NoTriangulation-clause-circles
+returns-in-NoTriangulation-clause-circles g c = let put = c.put_first in ok_anyhow put.result (λ empty. alone_empty put.new.self.dcel c.args.self.now.dcel.shape.vertices put.ensures.flat.alone)

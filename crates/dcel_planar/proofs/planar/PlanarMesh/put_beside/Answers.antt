@@ -9,6 +9,9 @@ use Rattle.dcel_planar.proofs.Opening.{put_open}
 use Rattle.dcel_planar.proofs.Puts.{put_back, put_gains, put_holds, put_lists, stays_listed, stays_outside, stays_triangulated}
 use Rattle.dcel_planar.proofs.Sound.{beside-lists, beside-triangulated}
 use Rattle.dcel_planar.proofs.Ends.{put_edges}
+use Rattle.dcel_plane.specs.Plane.{point_at}
+use Rattle.dcel_plane.specs.star.Star.{HasEmptyCirclesBut}
+use Rattle.dcel_planar.proofs.OthersEmpty.{beside-empty}
 use Rattle.dcel_planar.proofs.planar.PlanarMesh.put_beside.Goals as goal
 
 pub returns-in_default-clause-refused : goal.returns-in_default-clause-refused
@@ -101,3 +104,10 @@ invariant_of-self-clause-outlined g c =
 
 pub returns-clause-listed : goal.returns-clause-listed
 returns-clause-listed g c = some_listed _ _ _ _ c.push_reserved-3.ensures.items
+
+pub returns-clause-circles : goal.returns-clause-circles
+returns-clause-circles g c = λ empty.
+    let old = c.args.self.now.dcel in
+    put_holds (λ m. HasEmptyCirclesBut (point_at m) m.shape c.args.self.now.dcel.shape.vertices) (λ m v h e f. face_put_beside m c.args.edge v h e f) _ _ _ 2 1 old _ _ c.args.point _
+    (λ h e f mid done. beside-empty old c.every_mesh.ensures c.args.point empty mid h e f c.args.edge c.requires.hull c.requires.place.0 c.requires.place.1)
+    c.in_ok-vertex.ensures.edit c.in_ok-vertex.ensures.answer c.in-Ok.ensures.edit c.in_ok-vertex.ensures.mesh c.create_new_face_adjacent_to_edge.ensures.mesh

@@ -8,6 +8,9 @@ use Rattle.dcel_planar.proofs.Hull.{inserted-hull}
 use Rattle.dcel_planar.proofs.Puts.{put_back, put_gains, put_holds, put_lists, stays_hull, stays_listed, stays_triangulated}
 use Rattle.dcel_planar.proofs.Sound.{inserted-lists, inserted-triangulated}
 use Rattle.dcel_planar.proofs.Ends.{put_edges}
+use Rattle.dcel_plane.specs.Plane.{point_at}
+use Rattle.dcel_plane.specs.star.Star.{HasEmptyCirclesBut}
+use Rattle.dcel_planar.proofs.OthersEmpty.{inserted-empty}
 use Rattle.dcel_planar.proofs.planar.PlanarMesh.put_in_face.Goals as goal
 
 pub returns-in_default-clause-refused : goal.returns-in_default-clause-refused
@@ -84,3 +87,11 @@ invariant_of-self-2-clause-outlined g c = ∣ inr (inl (put_holds (λ m. HasHull
     (λ h e f mid done.
     inserted-hull c.args.self.now.dcel c.every_mesh.ensures c.args.point c.args.self.now.triangulated c.requires.hull mid h e f c.args.face c.requires.place.0 c.requires.place.1 c.requires.place.2 done)
     c.in_ok-vertex.ensures.edit c.in_ok-vertex.ensures.answer c.in-Ok.ensures.edit c.in_ok-vertex.ensures.mesh c.insert_into_triangle.ensures.mesh)) ∣₁
+
+pub returns-clause-circles : goal.returns-clause-circles
+returns-clause-circles g c = λ empty.
+    let old = c.args.self.now.dcel in
+    put_holds (λ m. HasEmptyCirclesBut (point_at m) m.shape c.args.self.now.dcel.shape.vertices) (λ m v h e f. vertex_inserted m v c.args.face h e f) _ _ _ 3 2 old _ _ c.args.point _
+    (λ h e f mid done.
+    inserted-empty old c.every_mesh.ensures c.args.point empty mid h e f c.args.face c.args.self.now.triangulated.plane c.requires.place.0 c.requires.place.1 c.requires.place.2)
+    c.in_ok-vertex.ensures.edit c.in_ok-vertex.ensures.answer c.in-Ok.ensures.edit c.in_ok-vertex.ensures.mesh c.insert_into_triangle.ensures.mesh

@@ -14,6 +14,9 @@ use Rattle.dcel_planar.proofs.OnEdges.{both_across}
 use Rattle.dcel_planar.proofs.Puts.{put_back, put_gains, put_holds, put_lists, stays_hull, stays_listed, stays_triangulated}
 use Rattle.dcel_planar.proofs.Sound.{same_triangle, split-lists, split-triangulated}
 use Rattle.dcel_planar.proofs.Ends.{edge_is_split, put_data}
+use Rattle.dcel_plane.specs.Plane.{point_at}
+use Rattle.dcel_plane.specs.star.Star.{HasEmptyCirclesBut}
+use Rattle.dcel_planar.proofs.OthersEmpty.{split-empty}
 use Rattle.dcel_planar.proofs.planar.PlanarMesh.put_on_edge.Goals as goal
 
 pub edges_next_to-far-requires : goal.edges_next_to-far-requires
@@ -137,3 +140,13 @@ push_reserved-requires-7 g c = grind (arith, common_steps)
 
 pub push_reserved-requires-8 : goal.push_reserved-requires-8
 push_reserved-requires-8 g c = grind (arith, common_steps)
+
+pub returns-clause-circles : goal.returns-clause-circles
+returns-clause-circles g c = λ empty.
+    let both = both_across c.args.self.now.dcel c.every_mesh.ensures c.args.self.now.triangulated c.args.edge c.args.point c.requires.place c.requires.inner c.requires.inner_facing in
+    let old = c.args.self.now.dcel in
+    put_holds (λ m. HasEmptyCirclesBut (point_at m) m.shape c.args.self.now.dcel.shape.vertices) (λ m v h e f. edge_split m c.args.edge v h e f) _ _ _ 3 2 old _ _ c.args.point _
+    (λ h e f mid done.
+    split-empty old c.every_mesh.ensures c.args.point empty mid h e f c.args.edge c.args.self.now.triangulated.plane c.requires.place.0 both.0.triangle both.1.triangle
+    c.requires.inner c.requires.inner_facing both.0.across both.1.across c.requires.place.1)
+    c.in_ok-vertex.ensures.edit c.in_ok-vertex.ensures.answer c.in-Ok.ensures.edit c.in_ok-vertex.ensures.mesh c.split_edge.ensures.mesh

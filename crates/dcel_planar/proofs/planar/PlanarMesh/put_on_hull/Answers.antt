@@ -11,6 +11,9 @@ use Rattle.dcel_planar.proofs.OnEdges.{on_edge_across}
 use Rattle.dcel_planar.proofs.Puts.{put_back, put_gains, put_holds, put_lists, stays_hull, stays_listed, stays_triangulated}
 use Rattle.dcel_planar.proofs.Sound.{half_split-lists, same_triangle, half_split-triangulated}
 use Rattle.dcel_planar.proofs.Ends.{half_is_split, put_data}
+use Rattle.dcel_plane.specs.Plane.{point_at}
+use Rattle.dcel_plane.specs.star.Star.{HasEmptyCirclesBut}
+use Rattle.dcel_planar.proofs.OthersEmpty.{half_split-empty}
 use Rattle.dcel_planar.proofs.planar.PlanarMesh.put_on_hull.Goals as goal
 
 pub returns-in_default-clause-refused : goal.returns-in_default-clause-refused
@@ -117,3 +120,14 @@ split_half_edge-requires-clause-triangle g c =
     let old = c.args.self.now.dcel in
     subst (λ (m : Mesh Point (Unit {0}) g.row.UE.Denot (Unit {0})). IsTriangle m.shape (face_of m.shape c.args.edge)) (sym c.in_ok-vertex.ensures.edit)
     (same_triangle old c.every_mesh.ensures c.args.point (face_of old.shape c.args.edge) near.triangle)
+
+pub returns-clause-circles : goal.returns-clause-circles
+returns-clause-circles g c = λ empty.
+    let inside = inner_side c.args.self.now.dcel c.every_mesh.ensures c.args.self.now.triangulated c.requires.hull c.args.edge c.requires.place.0 c.requires.outer in
+    let near = on_edge_across c.args.self.now.dcel c.every_mesh.ensures c.args.self.now.triangulated.triangles c.args.self.now.triangulated.plane c.args.edge c.requires.place.0 inside c.args.point c.requires.place.1 in
+    let old = c.args.self.now.dcel in
+    put_holds (λ m. HasEmptyCirclesBut (point_at m) m.shape c.args.self.now.dcel.shape.vertices) (λ m v h e f. half_edge_split m c.args.edge v h e f) _ _ _ 2 1 old _ _ c.args.point _
+    (λ h e f mid done.
+    half_split-empty old c.every_mesh.ensures c.args.point empty mid h e f c.args.edge c.args.self.now.triangulated.plane c.requires.place.0 near.triangle inside c.requires.outer
+    near.across c.requires.place.1)
+    c.in_ok-vertex.ensures.edit c.in_ok-vertex.ensures.answer c.in-Ok.ensures.edit c.in_ok-vertex.ensures.mesh c.split_half_edge.ensures.mesh

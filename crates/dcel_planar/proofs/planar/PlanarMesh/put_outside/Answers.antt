@@ -1,8 +1,9 @@
-use Rattle.std.proofs.Common.{inr}
+use Rattle.std.proofs.Common.{ℕ, inr, subst}
 use Rattle.dcel_planar.proofs.Ends.{edges-trans}
 use Rattle.dcel_planar.proofs.Growth.{gains-keeps}
 use Rattle.dcel_planar.proofs.Puts.{stays_outside}
 use Rattle.dcel_planar.proofs.Whole.{either_outside, opened_has}
+use Rattle.dcel_planar.specs.Growing.{IsOpen}
 use Rattle.dcel_planar.proofs.planar.PlanarMesh.put_outside.Goals as goal
 
 pub returns-clause-edges : goal.returns-clause-edges
@@ -37,3 +38,9 @@ pub returns-in_err-vertex-clause-outside : goal.returns-in_err-vertex-clause-out
 returns-in_err-vertex-clause-outside g c =
     stays_outside c.args.self.now.dcel c.put_beside.new.self.dcel c.args.self.now.due.items c.put_beside.new.self.due.items c.in_err-vertex.ensures.refused.1.mesh
     c.in_err-vertex.ensures.refused.1.due (either_outside c.args.self.now.dcel c.args.self.now.due.items c.requires.hull)
+
+pub returns-clause-circles : goal.returns-clause-circles
+returns-clause-circles g c = λ empty.
+    let mid = c.put_beside.new.self.dcel in
+    let still = subst (λ (w : ℕ). IsOpen mid w) c.in_ok-vertex.ensures.gains.vertex c.in_ok-vertex.ensures.open in
+    c.close_hull.ensures.closes.goes_on.circles c.args.self.now.dcel.shape.vertices still (c.in_ok-vertex.ensures.circles empty)

@@ -1,0 +1,10 @@
+pub mod Pencils
+pub mod Turning
+pub mod Spokes
+pub mod Flip
+pub mod Due
+pub mod Grown
+pub mod Inserted
+pub mod Split
+pub mod Outside
+pub mod Begin
