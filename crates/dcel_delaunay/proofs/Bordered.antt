@@ -33,7 +33,20 @@ module _ {DE UE F : Type 0} where
       let starts : AnchorsVertex m.shape v (Some h) =
       subst (λ (k : ℕ). AnchorsVertex m.shape k (Some h)) number
       (subst (λ (x : Mesh Point DE UE F). AnchorsVertex x.shape w (Some h)) same (subst (λ (a : Option ℕ). AnchorsVertex lent.shape w a) (sym anchor) anchored)) in
-      subst (λ (k : ℕ). BeginsBorder m v k) (sym is) (record { out = record { live = starts.0; start = starts.1 }; two = inr none })
+      subst (λ (k : ℕ). BeginsBorder m v k) (sym is) (record { out = record { live = starts.0; start = starts.1 }; two = inr (inl none) })
+
+  -- three steps lead back
+  pub begins_three : (m lent n : Mesh Point DE UE F) (v w h i : ℕ) → lent ≡ m → w ≡ v → Some h ≡ vertex_anchor lent w → AnchorsVertex lent.shape w (vertex_anchor lent w) → i ≡ h
+      → n ≡ lent → ccw_of n.shape (ccw_of n.shape (ccw_of n.shape h)) ≡ h → BeginsBorder m v i
+  begins_three m lent n v w h i same number anchor anchored is behind back =
+      let starts : AnchorsVertex m.shape v (Some h) =
+      subst (λ (k : ℕ). AnchorsVertex m.shape k (Some h)) number
+      (subst (λ (x : Mesh Point DE UE F). AnchorsVertex x.shape w (Some h)) same (subst (λ (a : Option ℕ). AnchorsVertex lent.shape w a) (sym anchor) anchored)) in
+      subst (λ (k : ℕ). BeginsBorder m v k) (sym is)
+      (record {
+        out = record { live = starts.0; start = starts.1 };
+        two = inr (inr (subst (λ (x : Mesh Point DE UE F). ccw_of x.shape (ccw_of x.shape (ccw_of x.shape h)) ≡ h) (behind ∙ same) back));
+      })
 
   module _ (m : Mesh Point DE UE F) (mesh : IsMesh m) (v : ℕ) (thin : IsThinnedOut m v) (h : ℕ) (begins : BeginsBorder m v h) where
     abbrev s : Shape
@@ -60,7 +73,8 @@ module _ {DE UE F : Type 0} where
     two : length (walk_of m.shape (ccw_of m.shape) h) ≡ 4 → MakesTwo (point_at m) m.shape h
     two four = elim begins.two [
       | inl makes ↦ makes
-      | inr none ↦ absurd
+      | inr (inr back) ↦ absurd (third_differs m mesh thin.triangles (point_at m) thin.plane thin.hull.convex thin.hull.hull h begins.out.live inner four back)
+      | inr (inl none) ↦ absurd
           (let found = two_from m mesh thin.triangles (point_at m) thin.plane thin.hull.convex thin.hull.hull h begins.out.live inner four in
           none found.0 (record { live = found.1.live; start = found.1.start ∙ begins.out.start }) found.2)
     ]

@@ -8,6 +8,7 @@ pub mod Items
 pub mod LineRemoved
 pub mod Listed
 pub mod Lost
+pub mod Needless
 pub mod Orders
 pub mod Outline
 pub mod Renaming

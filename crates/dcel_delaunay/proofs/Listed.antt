@@ -49,3 +49,8 @@ module _ {UE A : Type 0} where
       → mid.due.items ≢ [] → Keeps mid.dcel new.dcel → Gains old.dcel new.dcel p v
   settled_inserts old mid new position p v none (inl same) some keeps = absurd (some (same.1.due ∙ none))
   settled_inserts old mid new position p v none (inr gains) some keeps = gains-keeps old.dcel mid.dcel new.dcel p v gains keeps
+
+  pub new_vertex : (old mid : PlanarMesh UE A) (position : PositionInTriangulation) (p : Point) (v : ℕ) → old.due.items ≡ [] → IsPutIn old mid position p v
+      → mid.due.items ≢ [] → v ≡ old.dcel.shape.vertices
+  new_vertex old mid position p v none (inl same) some = absurd (some (same.1.due ∙ none))
+  new_vertex old mid position p v none (inr gains) some = gains.vertex

@@ -1,12 +1,15 @@
 -- A whole triangulation is a Delaunay triangulation of its vertices, or a line.
-use Rattle.std.proofs.Common.{◌≡◌, inl, inr, ℕ, ◌<◌, subst, arith, ℤ, ◌≤ℤ◌}
+use Rattle.std.proofs.Common.{◌≡◌, ◌∙◌, inl, inr, ℕ, ◌<◌, [], length, ap, sym, subst, arith, ℤ, ◌≤ℤ◌}
+use Rattle.std.proofs.lemmas.List.{get_or_past}
 use Rattle.std.proofs.lemmas.Bool.{cases_lt}
 use Rattle.dcel_maps.specs.Shapes.{IsMesh, Mesh, face_count, origin_of}
 use Rattle.dcel_predicates.specs.declared.point.Point.{Point}
 use Rattle.dcel_predicates.specs.Determinants.{squared_distance_of}
 use Rattle.dcel_predicates.proofs.Signs.{ordered}
 use Rattle.dcel_plane.specs.Plane.{point_at}
+use Rattle.dcel_plane.specs.covering.Covering.{HasEmptyCircles}
 use Rattle.dcel_plane.specs.covering.Delaunay.{IsDelaunayTriangulation}
+use Rattle.dcel_plane.proofs.covering.Circles.{no_vertex_inside}
 use Rattle.dcel_plane.proofs.covering.Numbered as laws
 use Rattle.dcel_plane.proofs.covering.Starts.{inner_half}
 use Rattle.dcel_plane.specs.location.Nearest.{HasNoNearerNeighbor, IsNearest}
@@ -29,6 +32,16 @@ module _ {DE UE F : Type 0} (m : Mesh Point DE UE F) (mesh : IsMesh m) (whole : 
         convex = has.convex;
         hull = has.hull;
       }
+
+  -- no vertex with an edge lies inside a circle
+  pub no_circle : HasEmptyCircles (point_at m) m.shape
+  no_circle = elim whole.hull [
+    | inl flat ↦ record {
+      empty = λ f x y z k inner is.
+          absurd (let none = ap length (sym (get_or_past m.shape.words f [] (omega (arith, flat.alone, inner))) ∙ is) in omega (arith, none));
+    }
+    | inr has ↦ no_vertex_inside m mesh whole.sound.triangles (point_at m) (delaunay m whole.sound) has.convex has.hull
+  ]
 
   pub circles_empty : CirclesAreEmpty m
   circles_empty f a b c v corners below =

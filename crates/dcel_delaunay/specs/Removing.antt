@@ -54,10 +54,12 @@ module _ {DE UE F : Type 0} where
     pub inside : IsInnerVertex m.shape v
     pub none : HasNoneToTurn m v
 
-  -- from the out edge h of v on, the ends of four edges make two triangles, if they do so from any
+  -- from the out edge h of v on, the ends of four edges make two triangles, if they do so from any, or v has three
   pub record BeginsBorder (m : Mesh Point DE UE F) (v h : ℕ) : Type 0 where
     pub out : IsOutEdge m.shape v h
-    pub two : MakesTwo (point_at m) m.shape h ⊎ ((k : ℕ) → IsOutEdge m.shape v k → ¬ MakesTwo (point_at m) m.shape k)
+    pub two :
+        MakesTwo (point_at m) m.shape h ⊎ ((k : ℕ) → IsOutEdge m.shape v k → ¬ MakesTwo (point_at m) m.shape k)
+        ⊎ (ccw_of m.shape (ccw_of m.shape (ccw_of m.shape h)) ≡ h)
 
   -- the border loop of v, which makes these triangles
   pub record IsFilled (m : Mesh Point DE UE F) (v : ℕ) (border : List ℕ) : Type 0 where

@@ -16,7 +16,7 @@ ghost use Rattle.dcel_delaunay.specs.Removing.{FailsToRemove, Loses};
 ghost use Rattle.dcel_delaunay.specs.Triangulated.{CirclesAreEmpty, FacesAreApart, GoesRoundHull, HullIsCovered, PointsAreSingle, mesh_in};
 
 use crate::errors::RemovalError;
-use crate::locate::nearest;
+use crate::locate::{nearest, start_near};
 use crate::remove::remove_vertex;
 use crate::removed::Removed;
 use crate::triangulation::Triangulation;
@@ -101,18 +101,18 @@ impl<A: Allocator> Triangulation<A> {
     /// Asks for a whole triangulation ([`is_whole`](Self::is_whole)): where memory ran out,
     /// [`finish`](Self::finish) makes it so. The walk begins at an edge of the vertex that the last
     /// insertion returned; after a removal, which renumbers edges, at the one that has its number now,
-    /// or at the first.
+    /// or at the first. If that is far away, it begins at the nearest of a few other vertices.
     pub fn locate(&self, point: Point) -> PositionInTriangulation
         requires whole { IsWholeMesh self.now.planar }
         ensures { IsPlace (mesh_in self.now) point result }
     {
-        self.planar.locate(self.last, point)
+        self.planar.locate(self.start(point), point)
     }
 
     /// Returns where a point is, as [`locate`](Self::locate) does, by a walk that begins at a vertex.
     ///
     /// The nearer the vertex is to the point, the shorter is the walk. Any number is taken: if no
-    /// vertex has it, the walk begins where that of [`locate`](Self::locate) does.
+    /// vertex has it, the walk begins at an edge of the vertex that the last insertion returned.
     ///
     /// Asks for a whole triangulation ([`is_whole`](Self::is_whole)): where memory ran out,
     /// [`finish`](Self::finish) makes it so.
@@ -127,15 +127,14 @@ impl<A: Allocator> Triangulation<A> {
     ///
     /// Asks for a whole triangulation ([`is_whole`](Self::is_whole)): where memory ran out,
     /// [`finish`](Self::finish) makes it so. A walk from neighbor to neighbor, each nearer than the
-    /// last one, begins at the vertex that the last insertion returned; after a removal, where the edge
-    /// starts that [`locate`](Self::locate) begins at, or at the first vertex.
+    /// last one, begins where that of [`locate`](Self::locate) does.
     pub fn nearest_vertex(&self, point: Point) -> Option<FixedVertexHandle>
         requires whole { IsWholeMesh self.now.planar }
         ensures vertex { IfSome result (λ v. v < (mesh_in self.now).shape.vertices) }
         ensures nearest { IfSome result (IsNearest (point_at (mesh_in self.now)) (mesh_in self.now).shape point) }
         ensures none { IfNone result ((mesh_in self.now).shape.vertices ≡ 0) }
     {
-        nearest(&self.planar.dcel, self.last, point)
+        nearest(&self.planar.dcel, self.start(point), point)
     }
 
     /// Inserts a point, and returns its vertex: a new one, or the one that is there already.
@@ -155,15 +154,31 @@ impl<A: Allocator> Triangulation<A> {
         ensures same { IsWholeMesh self.old.planar → (mesh_in self.new).vertex_data ≡ (mesh_in self.old).vertex_data → mesh_in self.new ≡ mesh_in self.old }
         ensures edges { (mesh_in self.old).shape.edges ≤ (mesh_in self.new).shape.edges }
     {
+        let start = self.start(point);
+        self.insert_from(start, point)
+    }
+
+    /// Inserts a point by a walk that begins at a half edge.
+    pub(crate) fn insert_from(
+        &mut self,
+        start: FixedDirectedEdgeHandle,
+        point: Point,
+    ) -> Result<FixedVertexHandle, InsertionError>
+        ensures inserts { IfOk result (HasInserted self.old.planar self.new.planar point) }
+        ensures whole { OnOk result (IsWholeMesh self.new.planar) }
+        ensures refuses { IfErr result (FailsToInsert self.old.planar self.new.planar point) }
+        ensures same { IsWholeMesh self.old.planar → (mesh_in self.new).vertex_data ≡ (mesh_in self.old).vertex_data → mesh_in self.new ≡ mesh_in self.old }
+        ensures edges { (mesh_in self.old).shape.edges ≤ (mesh_in self.new).shape.edges }
+    {
         self.finish()?;
         every_mesh(&self.planar.dcel);
-        let position = self.planar.locate(self.last, point);
+        let position = self.planar.locate(start, point);
         let vertex = self.planar.put_at(position, point)?;
         if self.planar.is_whole() {
             self.begin_at(vertex);
             return Ok(vertex);
         }
-        let Ok(()) = self.planar.legalize() else {
+        let Ok(()) = self.planar.legalize_star(vertex) else {
             return Err(InsertionError::Unfinished);
         };
         self.begin_at(vertex);
@@ -173,8 +188,8 @@ impl<A: Allocator> Triangulation<A> {
     /// Inserts a point, as [`insert`](Self::insert) does, by a walk that begins at a vertex.
     ///
     /// The nearer the vertex is to the point, the shorter is the walk. Any number is taken: if no
-    /// vertex has it, the walk begins where that of [`insert`](Self::insert) does. Results and errors
-    /// are those of [`insert`](Self::insert).
+    /// vertex has it, the walk begins at the vertex that the last insertion returned. Results and
+    /// errors are those of [`insert`](Self::insert).
     pub fn insert_with_hint(
         &mut self,
         point: Point,
@@ -187,7 +202,7 @@ impl<A: Allocator> Triangulation<A> {
         ensures edges { (mesh_in self.old).shape.edges ≤ (mesh_in self.new).shape.edges }
     {
         self.begin_at(hint);
-        self.insert(point)
+        self.insert_from(self.last, point)
     }
 
     /// Does what an insertion or a removal left undone for want of memory. A whole triangulation
@@ -214,6 +229,11 @@ impl<A: Allocator> Triangulation<A> {
             return Err(InsertionError::OutOfMemory);
         };
         Ok(())
+    }
+
+    /// Returns where a walk to a point begins.
+    fn start(&self, point: Point) -> FixedDirectedEdgeHandle {
+        start_near(&self.planar.dcel, self.last, point)
     }
 
     /// Has the next walk begin at a vertex, if there is such a one.

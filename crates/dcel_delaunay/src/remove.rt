@@ -8,6 +8,7 @@ ghost use Rattle.dcel_delaunay.specs.Staying.{HasConstraintAt, KeepsStaying, Los
 
 mod cleanup;
 mod corner;
+mod ears;
 mod flips;
 mod hole;
 mod line;

@@ -95,7 +95,7 @@ impl<A: Allocator> Triangulation<A> {
         ensures edges { (mesh_in self.old).shape.edges ≤ (mesh_in self.new).shape.edges }
     {
         if let Some(point) = point_of(points, number) {
-            let vertex = self.insert(point)?;
+            let vertex = self.insert_from(self.last, point)?;
             note(vertices, number, vertex);
         }
         Ok(())

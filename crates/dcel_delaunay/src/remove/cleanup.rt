@@ -1,11 +1,13 @@
 //! What a removal gave up taken out, with the vertex, and the edges that are listed by their new
 //! numbers.
 
-ghost use Rattle.std.specs.Prelude.{◌≡◌, ◌-◌, ◌<◌, ◌≤◌, ◌==◌, None, Some, cond, length, map, reverse, slice_index_or, slice_set, vec_len};
+ghost use Rattle.std.specs.Prelude.{◌≡◌, ◌-◌, ◌<◌, ◌≤◌, ◌==◌, IsTrue, None, Some, cond, length, map, reverse, slice_index_or, slice_set, true, vec_len, ℕ};
 ghost use Rattle.dcel_maps.specs.Removals.{Cleaned, IsListed};
 ghost use Rattle.dcel_maps.specs.Renumbered.{new_edge};
 ghost use Rattle.dcel_maps.specs.Renumbering.{cleaned, cleaned_up, moved, new_number, vertex_taken_out};
-ghost use Rattle.dcel_maps.specs.Shapes.{IsMesh};
+ghost use Rattle.dcel_maps.specs.Shapes.{IsMesh, edge_is_live};
+ghost use Rattle.dcel_maps.specs.Words.{count_of};
+ghost use Rattle.dcel_delaunay.specs.Needless.{IsNeedless, IsRepeated};
 
 use crate::remove::Due;
 use crate::removed::Removed;
@@ -14,6 +16,9 @@ use spade_dcel::handles::{FixedUndirectedEdgeHandle, FixedVertexHandle};
 use spade_dcel::laws::every_mesh;
 use spade_dcel::operations::{IsolateVertexResult, cleanup_isolated_vertex, swap_remove_vertex};
 use std::alloc::Allocator;
+
+/// How far back a repeated edge is looked for.
+const FEW: usize = 24;
 
 /// Takes out what a removal has given up.
 pub(crate) fn take_out<UE: Drop, A: Allocator, L: Allocator, B: Allocator>(
@@ -41,6 +46,59 @@ pub(crate) fn take_out<UE: Drop, A: Allocator, L: Allocator, B: Allocator>(
         point: taken.removed_vertex,
         moved: taken.swapped_in_vertex,
     }
+}
+
+/// Drops edges from a list that are given up, and those that it has a few places before too.
+///
+/// Each flip lists the sides of its two triangles, so most edges are listed twice.
+pub(crate) fn drop_needless<UE, A: Allocator, L: Allocator>(
+    dcel: &EdgeMesh<UE, A>,
+    due: &mut Due<L>,
+)
+    ensures { (u : ℕ) → edge_is_live dcel.now.shape u ≡ true → 0 < count_of u due.old.items → 0 < count_of u due.new.items }
+{
+    let mut at = 0;
+    while at < due.len() {
+        let edge = due[at];
+        if is_needless(dcel, due, at, edge) {
+            let _edge = due.swap_remove(at);
+        } else {
+            at += 1;
+        }
+    }
+}
+
+/// Returns whether an edge, which is at this place of a list, may be dropped.
+fn is_needless<UE, A: Allocator>(
+    dcel: &EdgeMesh<UE, A>,
+    due: &[FixedUndirectedEdgeHandle],
+    at: usize,
+    edge: FixedUndirectedEdgeHandle,
+) -> bool
+    requires { at < length due.now }
+    ensures { IsTrue result → IsNeedless dcel.now.shape due.now at edge }
+{
+    if is_repeated(due, at, edge) {
+        return true;
+    }
+    !dcel.is_live_edge(edge)
+}
+
+/// Returns whether a list has an edge a few places before this one.
+fn is_repeated(
+    due: &[FixedUndirectedEdgeHandle],
+    at: usize,
+    edge: FixedUndirectedEdgeHandle,
+) -> bool
+    requires { at < length due.now }
+    ensures { IsTrue result → IsRepeated due.now at edge }
+{
+    for before in at.saturating_sub(FEW)..at {
+        if due[before] == edge {
+            return true;
+        }
+    }
+    false
 }
 
 /// Gives each edge of a list the number that it has once these edges are taken out, from the last on.

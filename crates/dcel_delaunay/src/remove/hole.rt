@@ -98,7 +98,8 @@ fn border_of<UE, A: Allocator + Clone>(
     Ok(border)
 }
 
-/// Returns the out edge of the vertex at which the border loop begins.
+/// Returns the out edge of the vertex at which the border loop begins: of three edges any, of four one
+/// from which two triangles go round counterclockwise.
 fn beginning<UE, A: Allocator>(
     dcel: &EdgeMesh<UE, A>,
     vertex: FixedVertexHandle,
@@ -111,6 +112,9 @@ fn beginning<UE, A: Allocator>(
     let Some(anchor) = around.out_edge() else {
         unreachable!()
     };
+    if anchor.ccw().ccw().ccw().fix() == anchor.fix() {
+        return anchor.fix();
+    }
     let mut edges = around.out_edges();
     while let Some(edge) = edges.next() {
         if makes_two(edge) {

@@ -9,7 +9,7 @@ ghost use Rattle.dcel_delaunay.specs.Staying.{HasConstraintAt, KeepsStaying, Lea
 
 use crate::free::FreeByDefault;
 use crate::remove::Due;
-use crate::remove::cleanup::take_out;
+use crate::remove::cleanup::{drop_needless, take_out};
 use crate::remove::corner::cut_off;
 use crate::remove::flips::thin_out;
 use crate::remove::hole::fill;
@@ -44,6 +44,7 @@ pub(crate) fn cut_out<UE: FreeByDefault + Drop, A: Allocator + Clone, L: Allocat
     every_mesh(dcel);
     thin_out(dcel, due, vertex)?;
     let mut opened = fill(dcel, due, vertex)?;
+    drop_needless(dcel, due);
     Ok(take_out(dcel, due, &mut opened, vertex))
 }
 
@@ -71,5 +72,6 @@ pub(crate) fn cut_out_corner<UE: EdgeConstraint + Drop, A: Allocator + Clone, L:
     every_mesh(dcel);
     thin_out(dcel, due, vertex)?;
     let mut opened = cut_off(dcel, due, outside, vertex)?;
+    drop_needless(dcel, due);
     Ok(take_out(dcel, due, &mut opened, vertex))
 }

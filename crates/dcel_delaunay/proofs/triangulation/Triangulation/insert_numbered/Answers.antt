@@ -9,7 +9,7 @@ use Rattle.dcel_delaunay.proofs.triangulation.Triangulation.insert_numbered.Goal
 pub returns-in_ok-vertex-clause-stands : goal.returns-in_ok-vertex-clause-stands
 returns-in_ok-vertex-clause-stands g c =
     let old = mesh_in c.args.self.now in
-    let new = mesh_in c.insert.new.self in
+    let new = mesh_in c.insert_from.new.self in
     let takes = c.in_ok-vertex.ensures.inserts in
     let at = sym c.point_of.ensures ∙ c.in-Some.is in
     subst (StandsToo old new c.args.points.now c.args.number c.args.vertices.now.items) (sym c.note.ensures)
@@ -18,7 +18,7 @@ returns-in_ok-vertex-clause-stands g c =
 
 pub returns-in_ok-vertex-clause-adds : goal.returns-in_ok-vertex-clause-adds
 returns-in_ok-vertex-clause-adds g c =
-    adds_one (mesh_in c.args.self.now) (mesh_in c.insert.new.self) c.args.points.now c.args.number c.in-Some.point (sym c.point_of.ensures ∙ c.in-Some.is)
+    adds_one (mesh_in c.args.self.now) (mesh_in c.insert_from.new.self) c.args.points.now c.args.number c.in-Some.point (sym c.point_of.ensures ∙ c.in-Some.is)
     c.in_ok-vertex.ensures.inserts.points
 
 pub returns-in_default-clause-stands : goal.returns-in_default-clause-stands
@@ -27,10 +27,10 @@ returns-in_default-clause-stands g c =
 
 pub returns-in_err-vertex-clause-adds : goal.returns-in_err-vertex-clause-adds
 returns-in_err-vertex-clause-adds g c =
-    failed_adds c.args.self.now.planar c.insert.new.self.planar c.in-Some.point c.args.points.now c.args.number (sym c.point_of.ensures ∙ c.in-Some.is) _
+    failed_adds c.args.self.now.planar c.insert_from.new.self.planar c.in-Some.point c.args.points.now c.args.number (sym c.point_of.ensures ∙ c.in-Some.is) _
     c.in_err-vertex.ensures.refuses
 
 pub returns-in_err-vertex-clause-fails : goal.returns-in_err-vertex-clause-fails
 returns-in_err-vertex-clause-fails g c =
     let given = err_from_is_err_and c.from_residual.result c.from_residual.ensures.1 in
-    rw (given.1, given.2) (failed_all c.args.self.now.planar c.insert.new.self.planar c.in-Some.point _ c.in_err-vertex.ensures.refuses)
+    rw (given.1, given.2) (failed_all c.args.self.now.planar c.insert_from.new.self.planar c.in-Some.point _ c.in_err-vertex.ensures.refuses)

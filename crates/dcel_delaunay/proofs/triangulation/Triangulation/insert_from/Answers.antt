@@ -1,12 +1,15 @@
-use Rattle.std.proofs.Common.{◌≡◌, ◌≢◌, ◌∙◌, ◌++◌, ◌∷◌, List, [], ap, inr, refl, rules}
+use Rattle.std.proofs.Common.{◌≡◌, ◌≢◌, ◌∙◌, ◌++◌, ◌∷◌, ℕ, List, [], ap, inr, refl, rules, subst, sym}
 use Rattle.std.proofs.lemmas.Result.{err_from_is_err_and}
+use Rattle.dcel_plane.specs.Plane.{point_at}
+use Rattle.dcel_plane.specs.star.Star.{HasEmptyCirclesBut}
 use Rattle.dcel_predicates.specs.declared.point.Point.{Point}
 use Rattle.dcel_planar.specs.declared.planar.PlanarMesh.{PlanarMesh}
 use Rattle.dcel_planar.proofs.Refused.{insertion_fails}
 use Rattle.dcel_planar.proofs.Walking.{delaunay}
-use Rattle.dcel_delaunay.proofs.Listed.{lists_after, of_loose, put_inserts, settled, settled_inserts, to_loose}
+use Rattle.dcel_delaunay.proofs.Listed.{lists_after, new_vertex, put_inserts, settled, settled_inserts}
+use Rattle.dcel_delaunay.proofs.Theorem.{no_circle}
 use Rattle.dcel_delaunay.proofs.Taking.{takes_has, takes_points, takes_same}
-use Rattle.dcel_delaunay.proofs.triangulation.Triangulation.insert.Goals as goal
+use Rattle.dcel_delaunay.proofs.triangulation.Triangulation.insert_from.Goals as goal
 
 pub locate-position-requires-clause-hull : goal.locate-position-requires-clause-hull
 locate-position-requires-clause-hull g c = let mid = c.finish.new.self in (settled mid.planar mid.listed c.in_ok-finish.ensures.whole).hull
@@ -27,7 +30,17 @@ invariant_of-self-then-is_whole g c = record { listed = lists_after c.finish.new
 pub invariant_of-self-2 : goal.invariant_of-self-2
 invariant_of-self-2 g c =
     let put = lists_after c.finish.new.self.planar c.put_at.new.self c.put_at.ensures.lists c.finish.new.self.listed in
-    record { listed = of_loose c.legalize.new.self.dcel c.legalize.new.self.due.items (c.legalize.ensures.lists (to_loose c.put_at.new.self.dcel c.put_at.new.self.due.items put)) }
+    record { listed = c.legalize_star.ensures.lists put }
+
+pub legalize_star-requires-clause-circles : goal.legalize_star-requires-clause-circles
+legalize_star-requires-clause-circles g c =
+    let mid = c.finish.new.self in
+    let put = c.put_at.new.self.dcel in
+    let v = c.in_ok-vertex.vertex in
+    let some : c.put_at.new.self.due.items ≢ [] = search rules in
+    let last = new_vertex mid.planar c.put_at.new.self c.locate-position.result c.args.point v c.in_ok-finish.ensures.whole c.in_ok-vertex.ensures.put some in
+    let empty = no_circle mid.planar.dcel c.every_mesh.ensures (settled mid.planar mid.listed c.in_ok-finish.ensures.whole) in
+    subst (λ (w : ℕ). HasEmptyCirclesBut (point_at put) put.shape w) (sym last) (c.in_ok-vertex.ensures.circles empty)
 
 pub returns-then-is_whole-clause-inserts : goal.returns-then-is_whole-clause-inserts
 returns-then-is_whole-clause-inserts g c =
@@ -54,9 +67,9 @@ returns-in_default-clause-same g c = λ whole stay.
     let v = c.in_ok-vertex.vertex in
     let some : c.put_at.new.self.due.items ≢ [] = search rules in
     let gains =
-    settled_inserts mid.planar c.put_at.new.self c.legalize.new.self c.locate-position.result c.args.point v c.in_ok-finish.ensures.whole c.in_ok-vertex.ensures.put some
-    c.legalize.ensures.keeps in
-    takes_same c.args.self.now.planar.dcel mid.planar.dcel c.legalize.new.self.dcel c.legalize.new.self.dcel c.args.point v (c.finish.ensures.same whole) (inr gains) refl stay
+    settled_inserts mid.planar c.put_at.new.self c.legalize_star.new.self c.locate-position.result c.args.point v c.in_ok-finish.ensures.whole c.in_ok-vertex.ensures.put some
+    c.legalize_star.ensures.keeps in
+    takes_same c.args.self.now.planar.dcel mid.planar.dcel c.legalize_star.new.self.dcel c.legalize_star.new.self.dcel c.args.point v (c.finish.ensures.same whole) (inr gains) refl stay
 
 pub returns-clause-inserts : goal.returns-clause-inserts
 returns-clause-inserts g c =
@@ -64,12 +77,12 @@ returns-clause-inserts g c =
     let v = c.in_ok-vertex.vertex in
     let some : c.put_at.new.self.due.items ≢ [] = search rules in
     let gains =
-    settled_inserts mid.planar c.put_at.new.self c.legalize.new.self c.locate-position.result c.args.point v c.in_ok-finish.ensures.whole c.in_ok-vertex.ensures.put some
-    c.legalize.ensures.keeps in
-    let last : c.begin_at-2.new.self.planar.dcel ≡ c.legalize.new.self.dcel = ap (λ (m : PlanarMesh (Unit {0}) g.row.A.Denot). m.dcel) c.begin_at-2.ensures in
+    settled_inserts mid.planar c.put_at.new.self c.legalize_star.new.self c.locate-position.result c.args.point v c.in_ok-finish.ensures.whole c.in_ok-vertex.ensures.put some
+    c.legalize_star.ensures.keeps in
+    let last : c.begin_at-2.new.self.planar.dcel ≡ c.legalize_star.new.self.dcel = ap (λ (m : PlanarMesh (Unit {0}) g.row.A.Denot). m.dcel) c.begin_at-2.ensures in
     record {
-      has = takes_has mid.planar.dcel c.legalize.new.self.dcel _ c.args.point v c.every_mesh.ensures (inr gains) last;
-      points = takes_points _ mid.planar.dcel c.legalize.new.self.dcel _ c.args.point v c.finish.ensures.points (inr gains) last;
+      has = takes_has mid.planar.dcel c.legalize_star.new.self.dcel _ c.args.point v c.every_mesh.ensures (inr gains) last;
+      points = takes_points _ mid.planar.dcel c.legalize_star.new.self.dcel _ c.args.point v c.finish.ensures.points (inr gains) last;
     }
 
 pub returns-clause-same : goal.returns-clause-same
@@ -78,10 +91,10 @@ returns-clause-same g c = λ whole stay.
     let v = c.in_ok-vertex.vertex in
     let some : c.put_at.new.self.due.items ≢ [] = search rules in
     let gains =
-    settled_inserts mid.planar c.put_at.new.self c.legalize.new.self c.locate-position.result c.args.point v c.in_ok-finish.ensures.whole c.in_ok-vertex.ensures.put some
-    c.legalize.ensures.keeps in
-    let last : c.begin_at-2.new.self.planar.dcel ≡ c.legalize.new.self.dcel = ap (λ (m : PlanarMesh (Unit {0}) g.row.A.Denot). m.dcel) c.begin_at-2.ensures in
-    takes_same c.args.self.now.planar.dcel mid.planar.dcel c.legalize.new.self.dcel c.begin_at-2.new.self.planar.dcel c.args.point v (c.finish.ensures.same whole) (inr gains) last stay
+    settled_inserts mid.planar c.put_at.new.self c.legalize_star.new.self c.locate-position.result c.args.point v c.in_ok-finish.ensures.whole c.in_ok-vertex.ensures.put some
+    c.legalize_star.ensures.keeps in
+    let last : c.begin_at-2.new.self.planar.dcel ≡ c.legalize_star.new.self.dcel = ap (λ (m : PlanarMesh (Unit {0}) g.row.A.Denot). m.dcel) c.begin_at-2.ensures in
+    takes_same c.args.self.now.planar.dcel mid.planar.dcel c.legalize_star.new.self.dcel c.begin_at-2.new.self.planar.dcel c.args.point v (c.finish.ensures.same whole) (inr gains) last stay
 
 pub returns-in_err-finish-clause-refuses : goal.returns-in_err-finish-clause-refuses
 returns-in_err-finish-clause-refuses g c =
@@ -104,6 +117,6 @@ returns-in_default-clause-refuses g c =
     let v = c.in_ok-vertex.vertex in
     let some : c.put_at.new.self.due.items ≢ [] = search rules in
     let gains =
-    settled_inserts mid.planar c.put_at.new.self c.legalize.new.self c.locate-position.result c.args.point v c.in_ok-finish.ensures.whole c.in_ok-vertex.ensures.put some
-    c.legalize.ensures.keeps in
+    settled_inserts mid.planar c.put_at.new.self c.legalize_star.new.self c.locate-position.result c.args.point v c.in_ok-finish.ensures.whole c.in_ok-vertex.ensures.put some
+    c.legalize_star.ensures.keeps in
     (gains.points ∙ ap (λ (ps : List Point). ps ++ c.args.point ∷ []) c.finish.ensures.points, c.in_default.ensures.unfinished)
