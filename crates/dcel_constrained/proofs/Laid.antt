@@ -1,5 +1,5 @@
 -- A segment made one of marked edges, part after part: what holds after each part.
-use Rattle.std.proofs.Common.{◌≡◌, ◌⊎◌, ◌↔◌, inl, inr, ℕ, ◌*◌, ◌+◌, ◌/◌, ◌<◌, Bool, IsTrue, List, [], ◌∷◌, ◌++◌, slice_index_or, refl, sym, ap, ◌∙◌, subst, pos, ◌<ℤ◌, arith}
+use Rattle.std.proofs.Common.{◌≡◌, ◌⊎◌, ◌↔◌, inl, inr, ℕ, ◌*◌, ◌+◌, ◌/◌, ◌<◌, Bool, false, IsTrue, List, [], ◌∷◌, ◌++◌, slice_index_or, refl, sym, ap, ◌∙◌, subst, pos, ◌<ℤ◌, arith}
 use Rattle.dcel_fixed.specs.HalfEdges.{rev}
 use Rattle.dcel_fixed.proofs.Halves.{rev-double, rev-double-suc}
 use Rattle.std.proofs.lemmas.Bool.{cases_Bool, cases_eq}
@@ -219,3 +219,31 @@ module _ {DE F : Type 0} where
         crossed_before was =
             crosses_as (point_at new) (point_at m) new.shape m.shape goal w h (sym same_points) (closed-live m.shape closed (h / 2) (marked_below m mesh (h / 2) was))
             (sym (start_kept m new step.keeps h was)) (sym (end_kept m new step.keeps h was)) crosses
+
+  -- a segment laid at once
+  module _ (old new : Mesh Point DE Mark F) (v w : ℕ) (step : MarksBetween old new v w) (below : v < old.shape.vertices) (end_below : w < old.shape.vertices) where
+    none_laid : IsLaidTo old old v w v false
+    none_laid = record {
+      vertices = refl;
+      edges = refl;
+      points = refl;
+      keeps = keeps_none old;
+      only = λ u marked. inl marked;
+      added = (λ so. absurd (let e = so in cc), λ another. absurd (another.2 another.1));
+      same = λ none. refl;
+      list = [];
+      path = refl;
+      below = below;
+      end_below = end_below;
+      on = inl refl;
+    }
+
+    pub only_at_once : MarksOnly old new v w
+    only_at_once = only_then old old new v w v w false none_laid step (inl refl)
+
+    pub laid_at_once : (is_new : Bool) → IsMesh new → new.shape.removal ≡ Closed → IsLaid old new v w is_new → (¬ MarksAnother old new → new ≡ old)
+        → HasConstraint new v w × (IsTrue is_new ↔ MarksAnother old new)
+    laid_at_once is_new mesh closed part again =
+        let laid = laid_further old old new v w v w false none_laid step (inl refl) is_new is_new mesh closed part end_below
+        (λ so. inr so, λ either. elim either [ inl never ↦ absurd (let e = never in cc) | inr so ↦ so ]) again in
+        (laid_all old new v w w is_new laid refl, laid.added)

@@ -7,6 +7,7 @@ pub mod Passed
 pub mod Reaching
 pub mod Online
 pub mod Places
+pub mod Gaps
 pub mod Stepwise
 pub mod Opening
 pub mod Gathering
@@ -18,6 +19,7 @@ pub mod Outlined
 pub mod Laid
 pub mod PartsLaid
 pub mod Already
+pub mod Through
 pub mod Lays
 pub mod Missed
 pub mod Splits

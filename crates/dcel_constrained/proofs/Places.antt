@@ -1,9 +1,10 @@
 -- Items of a list and their places.
-use Rattle.std.proofs.Common.{◌≡◌, ℕ, zero, suc, ◌<◌, List, [], ◌∷◌, ◌++◌, length, take, drop, slice_get, slice_set, slice_index_or, Some, refl, ap, sym, subst, ◌∙◌, ℤ, ◌<ℤ◌, ◌≤ℤ◌, arith}
+use Rattle.std.proofs.Common.{◌≡◌, ℕ, zero, suc, ◌<◌, List, [], ◌∷◌, ◌++◌, length, take, drop, slice_get, slice_set, slice_index_or, Some, inl, inr, refl, ap, sym, subst, ◌∙◌, ℤ, ◌<ℤ◌, ◌≤ℤ◌, arith}
+use Rattle.std.proofs.lemmas.Bool.{cases_eq}
 use Rattle.std.proofs.lemmas.Int.{by_lt_z}
 use Rattle.std.proofs.lemmas.Option.{none-some}
 use Rattle.dcel_maps.specs.Words.{count_of}
-use Rattle.dcel_maps.proofs.words.Counts.{count-later, count-same}
+use Rattle.dcel_maps.proofs.words.Counts.{count-later, count-other, count-same}
 
 some_same : {A : Type 0} (x y : A) → Some x ≡ Some y → x ≡ y
 some_same x y same = cc
@@ -14,7 +15,7 @@ get_there [] i h d below is = absurd (omega (arith, below))
 get_there (x ∷ r) zero h d below is = ap Some (sym is)
 get_there (x ∷ r) (suc i) h d below is = get_there r i h d (omega (arith, below)) is
 
-one_there : (xs : List ℕ) (i h k : ℕ) → slice_get xs i ≡ Some h → slice_get xs i ≡ Some k → h ≡ k
+pub one_there : (xs : List ℕ) (i h k : ℕ) → slice_get xs i ≡ Some h → slice_get xs i ≡ Some k → h ≡ k
 one_there xs i h k first second = some_same h k (sym first ∙ second)
 
 -- a number for each item, compared at two places
@@ -70,3 +71,14 @@ first_after (x ∷ r) (suc i) k after is = first_after r i k after is
 pub no_items : (xs : List ℕ) → length xs ≡ 0 → xs ≡ []
 no_items [] none = refl
 no_items (x ∷ r) none = absurd (omega (arith, none))
+
+-- where an item stands
+pub place_of : (xs : List ℕ) (h : ℕ) → 0 < count_of h xs → (i : ℕ) × (i < length xs) × (slice_get xs i ≡ Some h)
+place_of [] h there = absurd (omega (arith, there))
+place_of (x ∷ r) h there = elim (cases_eq h x) [
+  | inl is ↦ (0, omega arith, ap Some (sym is))
+  | inr not ↦
+      (let rest = place_of r h (let c = count-other h x r not in omega (arith, there, c)) in
+      let below = rest.1 in
+      (suc rest.0, omega (arith, below), rest.2))
+]

@@ -52,7 +52,7 @@ module _ {DE F : Type 0} (m : Mesh Point DE Mark F) (planar : TriangulatesItsHul
   }
 
   -- through a list of half edges that aren't marked
-  through_list : (v y : ℕ) (list : List ℕ) → list ≢ [] → IsChannel at s v y list → ((h : ℕ) → 0 < count_of h list → ¬ IsMarked m (h / 2)) → IsFreeWay m v y
+  pub through_list : (v y : ℕ) (list : List ℕ) → list ≢ [] → IsChannel at s v y list → ((h : ℕ) → 0 < count_of h list → ¬ IsMarked m (h / 2)) → IsFreeWay m v y
   through_list v y [] some channel free h crosses = absurd (some refl)
   through_list v y (a ∷ rest) some channel free h crosses =
       free h

@@ -14,6 +14,10 @@ pub record HasVertices (s : Shape) (v w : ℕ) : Type 0 where
   pub from : v < s.vertices
   pub to : w < s.vertices
 
+-- the items of a list but for a gap: those before the place, and those that are left once `gap` items are skipped there
+abbrev pub around : List ℕ → ℕ → ℕ → List ℕ
+around items place gap = take place items ++ drop gap (drop place items)
+
 abbrev pub AreLive : Shape → List ℕ → Type 0
 AreLive s list = (h : ℕ) → 0 < count_of h list → IsLive s h
 

@@ -1,19 +1,22 @@
 //! Segments made constraints, unless marked edges are in their way.
 
-ghost use Rattle.std.specs.Prelude.{IfErr, IfOk, IsTrue, OnOk, ◌↔◌, ◌≡◌, ◌≤◌};
+ghost use Rattle.std.specs.Prelude.{IfErr, IfOk, IsTrue, OnErr, OnOk, ◌↔◌, ◌≡◌, ◌≤◌};
 ghost use Rattle.dcel_constrained.specs.Blocking.{FailsToAdd};
 ghost use Rattle.dcel_constrained.specs.Channels.{HasVertices};
 ghost use Rattle.dcel_constrained.specs.Constrained.{marked_mesh};
-ghost use Rattle.dcel_constrained.specs.Constraints.{HasConstraint, KeepsMarked, MarksOnly};
+ghost use Rattle.dcel_constrained.specs.Constraints.{HasConstraint, IsFreeWay, KeepsMarked, MarksOnly};
+ghost use Rattle.dcel_constrained.specs.Laying.{IsLaidIfFree};
 ghost use Rattle.dcel_constrained.specs.Soundness.{CanAdd, MarksAnother};
+ghost use Rattle.dcel_maps.specs.Shapes.{IsMesh};
 ghost use Rattle.dcel_planar.specs.Outcomes.{IsWholeMesh};
 
 use crate::errors::ConstraintError;
 use crate::segments::blocking::blocking;
+use crate::segments::chains::{lay_if_free, lay_on_line};
 use crate::triangulation::ConstrainedTriangulation;
 use spade_dcel::handles::FixedVertexHandle;
 use spade_dcel::laws::every_mesh;
-use std::alloc::Allocator;
+use std::alloc::{AllocError, Allocator};
 
 impl<A: Allocator + Clone> ConstrainedTriangulation<A> {
     /// Makes the segment between two vertices one of marked edges, as
@@ -60,13 +63,43 @@ impl<A: Allocator + Clone> ConstrainedTriangulation<A> {
         if to.index() >= vertices {
             return Err(ConstraintError::NoVertex);
         }
-        if !self.can_add_constraint(from, to) {
-            return Err(self.what_blocks(from, to));
+        let Ok(added) = self.add_if_free(from, to) else {
+            return Err(ConstraintError::OutOfMemory);
+        };
+        match added {
+            Some(added) => Ok(added),
+            None => Err(self.what_blocks(from, to)),
         }
-        match self.add_constraint(from, to) {
-            Ok(added) => Ok(added),
-            Err(_) => Err(ConstraintError::OutOfMemory),
+    }
+
+    /// Makes the segment between two vertices one of marked edges, and returns whether some edge is
+    /// marked then that wasn't; unless it crosses a marked edge: then nothing changes, and the result is
+    /// `None`.
+    fn add_if_free(
+        &mut self,
+        from: FixedVertexHandle,
+        to: FixedVertexHandle,
+    ) -> Result<Option<bool>, AllocError>
+        requires whole { IsWholeMesh self.old.planar }
+        requires ends { HasVertices (marked_mesh self.old).shape from to }
+        ensures laid { IfOk result (IsLaidIfFree (marked_mesh self.old) (marked_mesh self.new) from to) }
+        ensures tested { OnErr result (MarksAnother (marked_mesh self.old) (marked_mesh self.new) → IsFreeWay (marked_mesh self.old) from to) }
+        ensures keeps { KeepsMarked (marked_mesh self.old) (marked_mesh self.new) }
+        ensures only { MarksOnly (marked_mesh self.old) (marked_mesh self.new) from to }
+        ensures points { (marked_mesh self.new).vertex_data ≡ (marked_mesh self.old).vertex_data }
+        ensures edges { (marked_mesh self.new).shape.edges ≡ (marked_mesh self.old).shape.edges }
+        ensures same { ¬ MarksAnother (marked_mesh self.old) (marked_mesh self.new) → (marked_mesh self.new ≡ marked_mesh self.old) × IsWholeMesh self.new.planar }
+        ensures whole { OnOk result (IsWholeMesh self.new.planar) }
+        ensures mesh { IsMesh (marked_mesh self.new) }
+    {
+        every_mesh(&self.planar.dcel);
+        if from == to {
+            return Ok(Some(false));
         }
+        if self.planar.dcel.num_faces() == 1 {
+            return Ok(Some(lay_on_line(&mut self.planar.dcel, from, to)));
+        }
+        lay_if_free(&mut self.planar, from, to, &mut self.crossed)
     }
 
     /// Returns the edges in the way of a segment that can't be added, or that there was no memory for

@@ -2,6 +2,7 @@
 
 pub(crate) mod blocking;
 pub(crate) mod chains;
+pub(crate) mod edges;
 pub(crate) mod flips;
 pub(crate) mod join;
 pub(crate) mod offsets;

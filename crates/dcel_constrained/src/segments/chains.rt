@@ -1,20 +1,27 @@
 //! Segments made chains of marked edges, from one vertex on them to the next.
 
-ghost use Rattle.std.specs.Prelude.{◌≡◌, ◌≢◌, ◌⊎◌, ◌↔◌, ◌<◌, ◌/◌, [], ℕ, IfOk, IsTrue, OnOk};
+ghost use Rattle.std.specs.Prelude.{◌≡◌, ◌≢◌, ◌⊎◌, ◌↔◌, ◌<◌, ◌/◌, [], ℕ, false, IfOk, IsTrue, OnErr, OnOk};
 ghost use Rattle.dcel_maps.specs.edits.Data.{undirected_edge_updated};
 ghost use Rattle.dcel_maps.specs.Removals.{Closed};
 ghost use Rattle.dcel_maps.specs.Shapes.{IsMesh};
 ghost use Rattle.dcel_maps.specs.Walking.{Leads};
+ghost use Rattle.dcel_maps.specs.Words.{count_of};
 ghost use Rattle.dcel_planar.specs.Growing.{HasHull, IsFlat};
 ghost use Rattle.dcel_regions.specs.Marked.{IsMarked};
 ghost use Rattle.dcel_regions.specs.declared.mark.Mark.TheVariants.{Constraint};
-ghost use Rattle.dcel_constrained.specs.Constraints.{HasConstraint, KeepsMarked, MarksOnly};
-ghost use Rattle.dcel_constrained.specs.Laying.{IsPart, MarksBetween};
+ghost use Rattle.dcel_plane.specs.Plane.{point_at};
+ghost use Rattle.dcel_plane.specs.segments.Segments.{BeginsAt};
+ghost use Rattle.dcel_constrained.specs.Channels.{HasVertices};
+ghost use Rattle.dcel_constrained.specs.Constraints.{HasConstraint, IsFreeWay, KeepsMarked, MarksOnly};
+ghost use Rattle.dcel_constrained.specs.Laying.{IsLaidIfFree, IsPart, LaysOnly, MarksBetween};
 ghost use Rattle.dcel_constrained.specs.Soundness.{CanAdd, IsConstrained, MarksAnother};
 
 use crate::mesh::{ConstrainedMesh, is_marked, set_mark};
-use crate::segments::join::{Joined, join};
-use crate::segments::ways::first_along;
+use crate::segments::edges::edge_between;
+use crate::segments::flips::connect;
+use crate::segments::join::gather;
+use crate::segments::walk::{Met, first_met};
+use crate::segments::ways::{first_along, is_free_way};
 use dcel_planar::PlanarMesh;
 use dcel_regions::Mark;
 use spade_dcel::handles::{FixedDirectedEdgeHandle, FixedUndirectedEdgeHandle, FixedVertexHandle};
@@ -28,6 +35,8 @@ pub(crate) enum Part {
     Laid(bool),
     /// This vertex is between them, and nothing has changed.
     Between(FixedVertexHandle),
+    /// It crosses a marked edge, and nothing has changed.
+    Blocked,
 }
 
 /// Makes the segment between two vertices one of marked edges, by flips of edges that it crosses, and
@@ -62,6 +71,7 @@ pub(crate) fn lay_through_triangles<A: Allocator>(
     let mut added = false;
     while at != to {
         match lay_part(planar, at, goal, crossed)? {
+            Part::Blocked => unreachable!(),
             Part::Between(vertex) => goal = vertex,
             Part::Laid(is_new) => {
                 added = either(added, is_new);
@@ -73,8 +83,65 @@ pub(crate) fn lay_through_triangles<A: Allocator>(
     Ok(added)
 }
 
-/// Makes a segment a marked edge, unless a vertex is between its ends, and the triangulation whole
-/// again.
+/// Makes the segment between two vertices one of marked edges, as [`lay_through_triangles`] does, unless
+/// it crosses a marked edge: then nothing changes, and the result is `None`.
+pub(crate) fn lay_if_free<A: Allocator>(
+    planar: &mut PlanarMesh<Mark, A>,
+    from: FixedVertexHandle,
+    to: FixedVertexHandle,
+    crossed: &mut Vec<FixedDirectedEdgeHandle, A>,
+) -> Result<Option<bool>, AllocError>
+    requires sound { IsConstrained planar.old.dcel planar.old.due.items }
+    requires whole { planar.old.due.items ≡ [] }
+    requires hull { HasHull planar.old.dcel }
+    requires differ { from ≢ to }
+    requires ends { HasVertices planar.old.dcel.shape from to }
+    requires empty { crossed.old.items ≡ [] }
+    ensures lays { LaysOnly planar.old.dcel planar.new.dcel planar.new.due.items from to }
+    ensures laid { IfOk result (IsLaidIfFree planar.old.dcel planar.new.dcel from to) }
+    ensures tested { OnErr result (MarksAnother planar.old.dcel planar.new.dcel → IsFreeWay planar.old.dcel from to) }
+    ensures whole { OnOk result (planar.new.due.items ≡ []) }
+    ensures empty { crossed.new.items ≡ [] }
+{
+    match lay_part(planar, from, to, crossed)? {
+        Part::Blocked => Ok(None),
+        Part::Laid(is_new) => Ok(Some(is_new)),
+        Part::Between(_) => lay_parts_if_free(planar, from, to, crossed),
+    }
+}
+
+/// Makes a segment with vertices between its ends one of marked edges, unless it crosses a marked edge.
+fn lay_parts_if_free<A: Allocator>(
+    planar: &mut PlanarMesh<Mark, A>,
+    from: FixedVertexHandle,
+    to: FixedVertexHandle,
+    crossed: &mut Vec<FixedDirectedEdgeHandle, A>,
+) -> Result<Option<bool>, AllocError>
+    requires sound { IsConstrained planar.old.dcel planar.old.due.items }
+    requires whole { planar.old.due.items ≡ [] }
+    requires hull { HasHull planar.old.dcel }
+    requires differ { from ≢ to }
+    requires ends { HasVertices planar.old.dcel.shape from to }
+    requires empty { crossed.old.items ≡ [] }
+    ensures lays { LaysOnly planar.old.dcel planar.new.dcel planar.new.due.items from to }
+    ensures laid { IfOk result (IsLaidIfFree planar.old.dcel planar.new.dcel from to) }
+    ensures tested { OnErr result (MarksAnother planar.old.dcel planar.new.dcel → IsFreeWay planar.old.dcel from to) }
+    ensures whole { OnOk result (planar.new.due.items ≡ []) }
+    ensures empty { crossed.new.items ≡ [] }
+{
+    every_mesh(&planar.dcel);
+    // No part is laid before all are known to be free.
+    if !is_free_way(&planar.dcel, from, to) {
+        return Ok(None);
+    }
+    let added = lay_through_triangles(planar, from, to, crossed)?;
+    Ok(Some(added))
+}
+
+/// Makes a segment a marked edge, unless a vertex is between its ends or it crosses a marked edge, and
+/// the triangulation whole again.
+///
+/// Most segments are edges already. That is looked for first, as it reads no point.
 fn lay_part<A: Allocator>(
     planar: &mut PlanarMesh<Mark, A>,
     from: FixedVertexHandle,
@@ -85,11 +152,12 @@ fn lay_part<A: Allocator>(
     requires whole { planar.old.due.items ≡ [] }
     requires hull { HasHull planar.old.dcel }
     requires differ { from ≢ to }
-    requires can { CanAdd planar.old.dcel from to }
+    requires ends { HasVertices planar.old.dcel.shape from to }
     requires empty { crossed.old.items ≡ [] }
     ensures sound { IsConstrained planar.new.dcel planar.new.due.items }
     ensures hull { HasHull planar.new.dcel }
     ensures part { IfOk result (IsPart planar.old.dcel planar.new.dcel from to) }
+    ensures tested { OnErr result (MarksAnother planar.old.dcel planar.new.dcel → IsFreeWay planar.old.dcel from to) }
     ensures marks { MarksBetween planar.old.dcel planar.new.dcel from to }
     ensures same { ¬ MarksAnother planar.old.dcel planar.new.dcel → (planar.new.dcel ≡ planar.old.dcel) × (planar.new.due.items ≡ []) }
     ensures mesh { IsMesh planar.new.dcel }
@@ -97,45 +165,97 @@ fn lay_part<A: Allocator>(
     ensures empty { crossed.new.items ≡ [] }
 {
     every_mesh(&planar.dcel);
-    let Ok(joined) = join(&mut planar.dcel, from, to, crossed, &mut planar.due) else {
-        // What was noted needn't be looked at, as nothing has changed.
-        planar.due.clear();
-        return Err(AllocError);
-    };
-    match joined {
-        Joined::Between(vertex) => {
-            planar.due.clear();
-            Ok(Part::Between(vertex))
-        }
-        Joined::Edge => {
-            let is_new = mark_between(&mut planar.dcel, from, to);
-            if !is_new {
-                // It was there, so nothing has changed.
-                return Ok(Part::Laid(is_new));
-            }
-            planar.legalize()?;
-            Ok(Part::Laid(is_new))
-        }
+    if let Some(half) = edge_between(&planar.dcel, from, to) {
+        let is_new = mark(&mut planar.dcel, half.as_undirected());
+        return Ok(Part::Laid(is_new));
+    }
+    match first_met(&planar.dcel, from, to) {
+        Met::Vertex(vertex) => Ok(Part::Between(vertex)),
+        Met::Side(first) => lay_across(planar, from, to, first, crossed),
     }
 }
 
-/// Marks the edge between two vertices, and returns whether it wasn't marked.
+/// Makes a segment a marked edge whose way begins across this half edge, unless a vertex is between its
+/// ends or it crosses a marked edge, and the triangulation whole again.
+fn lay_across<A: Allocator>(
+    planar: &mut PlanarMesh<Mark, A>,
+    from: FixedVertexHandle,
+    to: FixedVertexHandle,
+    first: FixedDirectedEdgeHandle,
+    crossed: &mut Vec<FixedDirectedEdgeHandle, A>,
+) -> Result<Part, AllocError>
+    requires sound { IsConstrained planar.old.dcel planar.old.due.items }
+    requires whole { planar.old.due.items ≡ [] }
+    requires hull { HasHull planar.old.dcel }
+    requires differ { from ≢ to }
+    requires ends { HasVertices planar.old.dcel.shape from to }
+    requires begins { BeginsAt (point_at planar.old.dcel) planar.old.dcel.shape from to first }
+    requires empty { crossed.old.items ≡ [] }
+    ensures sound { IsConstrained planar.new.dcel planar.new.due.items }
+    ensures hull { HasHull planar.new.dcel }
+    ensures part { IfOk result (IsPart planar.old.dcel planar.new.dcel from to) }
+    ensures tested { OnErr result (MarksAnother planar.old.dcel planar.new.dcel → IsFreeWay planar.old.dcel from to) }
+    ensures marks { MarksBetween planar.old.dcel planar.new.dcel from to }
+    ensures same { ¬ MarksAnother planar.old.dcel planar.new.dcel → (planar.new.dcel ≡ planar.old.dcel) × (planar.new.due.items ≡ []) }
+    ensures mesh { IsMesh planar.new.dcel }
+    ensures whole { OnOk result (planar.new.due.items ≡ []) }
+    ensures empty { crossed.new.items ≡ [] }
+{
+    every_mesh(&planar.dcel);
+    // Where nothing changes, what is noted needn't be looked at.
+    let Ok(vertex) = gather(&planar.dcel, from, to, first, crossed, &mut planar.due) else {
+        crossed.clear();
+        planar.due.clear();
+        return Err(AllocError);
+    };
+    if vertex != to {
+        crossed.clear();
+        planar.due.clear();
+        return Ok(Part::Between(vertex));
+    }
+    if is_some_marked(&planar.dcel, crossed) {
+        crossed.clear();
+        planar.due.clear();
+        return Ok(Part::Blocked);
+    }
+    connect(&mut planar.dcel, from, to, crossed);
+    mark_between(&mut planar.dcel, from, to);
+    planar.legalize()?;
+    Ok(Part::Laid(true))
+}
+
+/// Returns whether one of these half edges belongs to a marked edge.
+fn is_some_marked<A: Allocator>(
+    dcel: &ConstrainedMesh<A>,
+    halves: &[FixedDirectedEdgeHandle],
+) -> bool
+    ensures some { IsTrue result → (h : ℕ) × (0 < count_of h halves.now) × IsMarked dcel.now (h / 2) }
+    ensures none { result ≡ false → (h : ℕ) → 0 < count_of h halves.now → ¬ IsMarked dcel.now (h / 2) }
+{
+    for at in 0..halves.len() {
+        if is_marked(dcel, halves[at].as_undirected()) {
+            return true;
+        }
+    }
+    false
+}
+
+/// Marks the edge between two vertices.
 pub(crate) fn mark_between<A: Allocator>(
     dcel: &mut ConstrainedMesh<A>,
     from: FixedVertexHandle,
     to: FixedVertexHandle,
-) -> bool
-    requires within { from < dcel.old.shape.vertices }
+)
     requires joined { (h : ℕ) × Leads dcel.old.shape from to h }
     requires closed { dcel.old.shape.removal ≡ Closed }
-    ensures marked { (h : ℕ) × Leads dcel.old.shape from to h × (dcel.new ≡ undirected_edge_updated dcel.old (h / 2) Constraint) × (IsTrue result ↔ (¬ IsMarked dcel.old (h / 2))) }
+    ensures marked { (h : ℕ) × Leads dcel.old.shape from to h × (dcel.new ≡ undirected_edge_updated dcel.old (h / 2) Constraint) }
     ensures mesh { IsMesh dcel.new }
 {
-    let Some(edge) = dcel.get_edge_from_neighbors(from, to) else {
+    every_mesh(dcel);
+    let Some(half) = edge_between(dcel, from, to) else {
         unreachable!()
     };
-    let edge = edge.fix().as_undirected();
-    mark(dcel, edge)
+    set_mark(dcel, half.as_undirected(), Mark::Constraint);
 }
 
 /// Marks an edge, and returns whether it wasn't marked.

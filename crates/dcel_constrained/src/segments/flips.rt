@@ -1,12 +1,12 @@
 //! Segments made edges by flips.
 
-ghost use Rattle.std.specs.Prelude.{◌≡◌, ◌≢◌, ◌↔◌, ℕ, List, [], ◌++◌, suc, ◌<◌, length, take, drop, IsTrue, pos, ◌<ℤ◌};
+ghost use Rattle.std.specs.Prelude.{◌≡◌, ◌≢◌, ◌↔◌, ℕ, List, [], ◌++◌, suc, ◌<◌, ◌≤◌, ◌+◌, length, take, drop, IsTrue, pos, ◌<ℤ◌};
 ghost use Rattle.std.specs.Option.{option_to_list};
 ghost use Rattle.dcel_maps.specs.Shapes.{IsLive, IsMesh};
 ghost use Rattle.dcel_maps.specs.Walking.{Leads};
 ghost use Rattle.dcel_plane.specs.Plane.{ListsCircled, point_at};
 ghost use Rattle.dcel_plane.specs.segments.Segments.{BecomesCrossing, HasSidesOf, IsChannel, TriangulatesItsHull, TurnsInto};
-ghost use Rattle.dcel_constrained.specs.Channels.{HasVertices, IsLeftAt, IsNarrowerBefore, IsNotWiderAfter};
+ghost use Rattle.dcel_constrained.specs.Channels.{HasVertices, IsLeftAt, IsNarrowerBefore, IsNotWiderAfter, around};
 
 use crate::segments::offsets::{far_corner, near_corner, offset_of};
 use crate::segments::peaks::find_peak;
@@ -39,35 +39,40 @@ pub(crate) fn connect<DE, UE, F, A: Allocator, L: Allocator>(
         → ListsCircled (point_at dcel.old) dcel.old.shape (due ++ lacking) → ListsCircled (point_at dcel.new) dcel.new.shape (due ++ lacking) }
     ensures crossed { crossed.new.items ≡ [] }
 {
-    let mut near = 0;
-    while crossed.len() > 0 {
-        let last = crossed.len() - 1;
-        let at = find_peak(dcel, from, to, crossed, near.min(last));
-        turn(dcel, from, to, crossed, at);
-        near = at;
+    // What is taken out leaves a gap, which moves along the list: taken out of its middle it would cost as
+    // much as the list is long.
+    let mut at = 0;
+    let mut gap = 0;
+    while gap < crossed.len() {
+        at = find_peak(dcel, from, to, crossed, at, gap);
+        gap = turn(dcel, from, to, crossed, at, gap);
     }
+    crossed.clear();
 }
 
-/// Flips the edge at a place of the list, and puts in its place what crosses the segment then.
+/// Flips the edge at a place of the list, behind a gap, and puts in its place what crosses the segment
+/// then, or makes the gap longer. Returns how long it is.
 fn turn<DE, UE, F, A: Allocator, L: Allocator>(
     dcel: &mut Dcel<Point, DE, UE, F, A>,
     from: FixedVertexHandle,
     to: FixedVertexHandle,
     crossed: &mut Vec<FixedDirectedEdgeHandle, L>,
     at: usize,
-)
+    gap: usize,
+) -> usize
     requires planar { TriangulatesItsHull (point_at dcel.old) dcel.old }
-    requires channel { IsChannel (point_at dcel.old) dcel.old.shape from to crossed.old.items }
-    requires place { at < length crossed.old.items }
-    requires before { IsNarrowerBefore (point_at dcel.old) dcel.old.shape from to crossed.old.items at }
-    requires after { IsNotWiderAfter (point_at dcel.old) dcel.old.shape from to crossed.old.items at }
-    ensures left { IsLeftAt dcel.old dcel.new from to crossed.old.items crossed.new.items at }
+    requires channel { IsChannel (point_at dcel.old) dcel.old.shape from to (around crossed.old.items at gap) }
+    requires place { at + gap < length crossed.old.items }
+    requires before { IsNarrowerBefore (point_at dcel.old) dcel.old.shape from to (around crossed.old.items at gap) at }
+    requires after { IsNotWiderAfter (point_at dcel.old) dcel.old.shape from to (around crossed.old.items at gap) at }
+    ensures left { IsLeftAt dcel.old dcel.new from to (around crossed.old.items at gap) (around crossed.new.items at result) at }
+    ensures within { at + result ≤ length crossed.new.items }
     ensures mesh { IsMesh dcel.new }
 {
-    let edge = crossed[at];
+    let edge = crossed[at + gap];
     let still = crossing_after(dcel, from, to, edge);
     flip_cw(dcel, edge.as_undirected());
-    put_or_remove(crossed, at, still);
+    put_or_remove(crossed, at, gap, still)
 }
 
 /// Returns the half of an edge that crosses the segment from right to left once it is flipped, if one
@@ -103,19 +108,22 @@ pub(crate) fn is_split(right: i128, left: i128) -> bool
     left > 0
 }
 
-/// Replaces an item of a list, or takes it out.
+/// Replaces the item of a list that is behind a gap, or takes it into the gap. Returns how long that is.
 fn put_or_remove<L: Allocator>(
     crossed: &mut Vec<FixedDirectedEdgeHandle, L>,
     at: usize,
+    gap: usize,
     item: Option<FixedDirectedEdgeHandle>,
-)
-    requires { at < length crossed.old.items }
-    ensures { crossed.new.items ≡ take at crossed.old.items ++ (option_to_list item ++ drop (suc at) crossed.old.items) }
+) -> usize
+    requires { at + gap < length crossed.old.items }
+    ensures list { around crossed.new.items at result ≡ take at (around crossed.old.items at gap) ++ (option_to_list item ++ drop (suc at) (around crossed.old.items at gap)) }
+    ensures within { at + result ≤ length crossed.new.items }
 {
     match item {
-        Some(half) => crossed[at] = half,
-        None => {
-            let _ = crossed.remove(at);
+        Some(half) => {
+            crossed[at + gap] = half;
+            gap
         }
+        None => gap + 1,
     }
 }

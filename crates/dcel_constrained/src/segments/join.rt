@@ -94,7 +94,7 @@ fn reached(vertex: FixedVertexHandle, to: FixedVertexHandle) -> Joined
 
 /// Lists the half edges that a segment crosses, from this one on, and the edges around the triangles
 /// beside them, and returns the vertex that it comes to: its end, or one between its ends.
-fn gather<DE, UE, F, A: Allocator, L: Allocator>(
+pub(crate) fn gather<DE, UE, F, A: Allocator, L: Allocator>(
     dcel: &Dcel<Point, DE, UE, F, A>,
     from: FixedVertexHandle,
     to: FixedVertexHandle,

@@ -14,25 +14,33 @@ lay_part-requires-clause-differ g c =
     parts_differ c.args.planar.now.dcel c.loop-to.planar.dcel c.args.from c.args.to c.loop-to.at c.loop-to.goal c.loop-to.planar.due.items c.loop-to.crossed.items c.loop-to.added
     c.loop-to.invariant more
 
-pub lay_part-requires-clause-can : goal.lay_part-requires-clause-can
-lay_part-requires-clause-can g c =
+pub lay_part-requires-clause-ends : goal.lay_part-requires-clause-ends
+lay_part-requires-clause-ends g c =
     let more : c.loop-to.at ≢ c.args.to = grind (arith, nat_tests, c.ne.ensures, c.loop-to-test.true) in
-    can_go c.args.planar.now.dcel c.loop-to.planar.dcel c.args.from c.args.to c.loop-to.at c.loop-to.goal c.loop-to.planar.due.items c.loop-to.crossed.items c.loop-to.added c.loop-to.invariant more
+    let can = can_go c.args.planar.now.dcel c.loop-to.planar.dcel c.args.from c.args.to c.loop-to.at c.loop-to.goal c.loop-to.planar.due.items c.loop-to.crossed.items c.loop-to.added c.loop-to.invariant more in
+    record { from = can.from; to = can.to }
 
-pub returns-in_err-vertex-clause-keeps : goal.returns-in_err-vertex-clause-keeps
-returns-in_err-vertex-clause-keeps g c =
+pub unreachable-requires : goal.unreachable-requires
+unreachable-requires g c =
+    let more : c.loop-to.at ≢ c.args.to = grind (arith, nat_tests, c.ne.ensures, c.loop-to-test.true) in
+    let can = can_go c.args.planar.now.dcel c.loop-to.planar.dcel c.args.from c.args.to c.loop-to.at c.loop-to.goal c.loop-to.planar.due.items c.loop-to.crossed.items c.loop-to.added c.loop-to.invariant more in
+    let part = subst (λ (p : Part). IsPart c.loop-to.planar.dcel c.lay_part.new.planar.dcel c.loop-to.at c.loop-to.goal p) c.in-Blocked.is c.in_ok-lay_part.ensures.part in
+    part.1 can.free
+
+pub returns-in_err-lay_part-clause-keeps : goal.returns-in_err-lay_part-clause-keeps
+returns-in_err-lay_part-clause-keeps g c =
     keeps_then c.args.planar.now.dcel c.loop-to.planar.dcel c.lay_part.new.planar.dcel c.args.from c.args.to c.loop-to.at c.loop-to.goal c.loop-to.added c.loop-to.invariant.laid
     c.lay_part.ensures.marks c.loop-to.invariant.ahead
 
-pub returns-in_err-vertex-clause-only : goal.returns-in_err-vertex-clause-only
-returns-in_err-vertex-clause-only g c =
+pub returns-in_err-lay_part-clause-only : goal.returns-in_err-lay_part-clause-only
+returns-in_err-lay_part-clause-only g c =
     only_then c.args.planar.now.dcel c.loop-to.planar.dcel c.lay_part.new.planar.dcel c.args.from c.args.to c.loop-to.at c.loop-to.goal c.loop-to.added c.loop-to.invariant.laid
     c.lay_part.ensures.marks c.loop-to.invariant.ahead
 
 pub loop-to-smaller-in-Between : goal.loop-to-smaller-in-Between
 loop-to-smaller-in-Between g c =
     let m = c.loop-to.planar.dcel in
-    let part = subst (λ (p : Part). IsPart m c.lay_part.new.planar.dcel c.loop-to.at c.loop-to.goal p) c.in-Between.is c.in_ok-vertex.ensures.part in
+    let part = subst (λ (p : Part). IsPart m c.lay_part.new.planar.dcel c.loop-to.at c.loop-to.goal p) c.in-Between.is c.in_ok-lay_part.ensures.part in
     subst (λ k. way_left (point_at k) c.loop-to.at c.args.to c.in-Between.vertex < way_left (point_at m) c.loop-to.at c.args.to c.loop-to.goal) (sym part.0)
     (sooner_left (point_at m) c.loop-to.at c.args.to c.loop-to.goal c.in-Between.vertex part.2)
 
@@ -40,9 +48,9 @@ pub loop-to-preserved-in-Between : goal.loop-to-preserved-in-Between
 loop-to-preserved-in-Between g c =
     let m = c.loop-to.planar.dcel in
     let more : c.loop-to.at ≢ c.args.to = grind (arith, nat_tests, c.ne.ensures, c.loop-to-test.true) in
-    let part = subst (λ (p : Part). IsPart m c.lay_part.new.planar.dcel c.loop-to.at c.loop-to.goal p) c.in-Between.is c.in_ok-vertex.ensures.part in
+    let part = subst (λ (p : Part). IsPart m c.lay_part.new.planar.dcel c.loop-to.at c.loop-to.goal p) c.in-Between.is c.in_ok-lay_part.ensures.part in
     sooner c.args.planar.now.dcel m c.args.from c.args.to c.loop-to.at c.loop-to.goal c.loop-to.planar.due.items c.loop-to.crossed.items c.loop-to.added c.loop-to.invariant more
-    c.lay_part.new.planar.dcel c.lay_part.new.planar.due.items c.lay_part.new.crossed.items c.lay_part.ensures.mesh c.lay_part.ensures.sound c.in_ok-vertex.ensures.whole
+    c.lay_part.new.planar.dcel c.lay_part.new.planar.due.items c.lay_part.new.crossed.items c.lay_part.ensures.mesh c.lay_part.ensures.sound c.in_ok-lay_part.ensures.whole
     c.lay_part.ensures.hull c.lay_part.ensures.empty c.in-Between.vertex part.0 part.1 part.2
 
 pub loop-to-smaller : goal.loop-to-smaller
@@ -58,10 +66,10 @@ pub loop-to-preserved : goal.loop-to-preserved
 loop-to-preserved g c =
     let m = c.loop-to.planar.dcel in
     let more : c.loop-to.at ≢ c.args.to = grind (arith, nat_tests, c.ne.ensures, c.loop-to-test.true) in
-    let part = subst (λ (p : Part). IsPart m c.lay_part.new.planar.dcel c.loop-to.at c.loop-to.goal p) c.in-Laid.is c.in_ok-vertex.ensures.part in
+    let part = subst (λ (p : Part). IsPart m c.lay_part.new.planar.dcel c.loop-to.at c.loop-to.goal p) c.in-Laid.is c.in_ok-lay_part.ensures.part in
     later c.args.planar.now.dcel m c.args.from c.args.to c.loop-to.at c.loop-to.goal c.loop-to.planar.due.items c.loop-to.crossed.items c.loop-to.added c.loop-to.invariant more
-    c.lay_part.new.planar.dcel c.lay_part.new.planar.due.items c.lay_part.new.crossed.items c.lay_part.ensures.mesh c.lay_part.ensures.sound c.in_ok-vertex.ensures.whole
-    c.lay_part.ensures.hull c.lay_part.ensures.empty c.in-Laid.is_new c.either-added.result c.lay_part.ensures.marks part c.either-added.ensures
+    c.lay_part.new.planar.dcel c.lay_part.new.planar.due.items c.lay_part.new.crossed.items c.lay_part.ensures.mesh c.lay_part.ensures.sound c.in_ok-lay_part.ensures.whole
+    c.lay_part.ensures.hull c.lay_part.ensures.empty c.in-Laid.is_new c.either-added.result c.lay_part.ensures.marks part.0 c.either-added.ensures
     (λ none. (c.lay_part.ensures.same none).0)
 
 pub returns-clause-laid : goal.returns-clause-laid
@@ -69,8 +77,8 @@ returns-clause-laid g c =
     let done : c.loop-to.at ≡ c.args.to = grind (arith, nat_tests, c.ne.ensures, c.loop-to-test.false) in
     laid_all c.args.planar.now.dcel c.loop-to.planar.dcel c.args.from c.args.to c.loop-to.at c.loop-to.added c.loop-to.invariant.laid done
 
-pub returns-in_err-vertex-clause-same : goal.returns-in_err-vertex-clause-same
-returns-in_err-vertex-clause-same g c =
+pub returns-in_err-lay_part-clause-same : goal.returns-in_err-lay_part-clause-same
+returns-in_err-lay_part-clause-same g c =
     left_after c.args.planar.now.dcel c.loop-to.planar.dcel c.lay_part.new.planar.dcel c.lay_part.new.planar.due.items c.loop-to.invariant.laid.keeps c.lay_part.ensures.marks.keeps
     c.loop-to.invariant.laid.same c.lay_part.ensures.same
 

@@ -1,12 +1,16 @@
-use Rattle.std.proofs.Common.{unsigned_abs}
+use Rattle.std.proofs.Common.{unsigned_abs, ◌+◌, ◌≤◌, length}
 use Rattle.dcel_plane.specs.Plane.{point_at}
 use Rattle.dcel_plane.specs.segments.Segments.{widths}
+use Rattle.dcel_constrained.specs.Channels.{around}
 use Rattle.dcel_constrained.proofs.Stepwise.{IsOnWay}
 use Rattle.dcel_constrained.proofs.segments.flips.connect.Given as goal
 
-abbrev pub invariant-loop-from : goal.invariant-loop-from
-invariant-loop-from g l = IsOnWay l.fn.dcel l.fn.crossed.items l.fn.from l.fn.to l.dcel l.crossed.items
+abbrev pub invariant-loop-gap : goal.invariant-loop-gap
+invariant-loop-gap g l = record {
+  way : IsOnWay l.fn.dcel l.fn.crossed.items l.fn.from l.fn.to l.dcel (around l.crossed.items l.at l.gap);
+  within : l.at + l.gap ≤ length l.crossed.items;
+}
 
 -- each flip makes the list narrower
-abbrev pub decreases-loop-from : goal.decreases-loop-from
-decreases-loop-from g l = unsigned_abs (widths (point_at l.dcel) l.dcel.shape l.from l.to l.crossed.items)
+abbrev pub decreases-loop-gap : goal.decreases-loop-gap
+decreases-loop-gap g l = unsigned_abs (widths (point_at l.dcel) l.dcel.shape l.from l.to (around l.crossed.items l.at l.gap))
