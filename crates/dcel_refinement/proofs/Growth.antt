@@ -1,5 +1,5 @@
 -- Vertices added one after another.
-use Rattle.std.proofs.Common.{◌≡◌, ◌∙◌, ℕ, ◌+◌, ◌<◌, ◌≤◌, ◌++◌, List, [], length, refl, sym, ap, arith, slice_index_or}
+use Rattle.std.proofs.Common.{◌≡◌, ◌∙◌, ℕ, ◌+◌, ◌<◌, ◌≤◌, ◌++◌, List, [], length, sym, ap, arith, slice_index_or}
 use Rattle.std.proofs.lemmas.List.{get_or_append_left, length-append, append_assoc, append-nil}
 use Rattle.dcel_predicates.specs.declared.point.Point.{Point}
 use Rattle.dcel_maps.specs.Removals.{Closed}

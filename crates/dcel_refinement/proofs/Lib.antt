@@ -1,3 +1,4 @@
 mod Dots
+mod Exceptions
 mod Growth
 mod Judged

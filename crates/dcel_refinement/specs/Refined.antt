@@ -4,7 +4,7 @@ use Rattle.dcel_predicates.specs.declared.point.Point.{Point}
 use Rattle.dcel_maps.specs.Shapes.{Mesh, face_count}
 use Rattle.dcel_regions.specs.Regions.{IsReached}
 use Rattle.dcel_regions.specs.declared.mark.Mark.{Mark}
-use Rattle.dcel_refinement.specs.Quality.{IsGood}
+use Rattle.dcel_refinement.specs.Quality.{HasExceptions, IsGood}
 use Rattle.dcel_refinement.specs.declared.parameters.RefinementParameters.{RefinementParameters}
 use Rattle.dcel_refinement.specs.declared.refining.Refined.{Refined}
 use Rattle.dcel_refinement.specs.declared.refining.Refined.TheVariants.{Done, Stopped}
@@ -26,10 +26,10 @@ module _ {DE F : Type 0} where
     pub points : new.vertex_data ≡ old.vertex_data ++ added
     pub few : length added ≤ most
 
-  -- the result says whether all is good, and how many vertices there are beyond those of before
+  -- the result says whether all is good, how many vertices there are beyond those of before, and how many exceptions
   abbrev pub ReportsOf : Mesh Point DE Mark F → RefinementParameters → ℕ → Refined → Type 0
-  ReportsOf m p before (Done added) = IsGood m p × (added ≡ m.shape.vertices - before)
-  ReportsOf m p before (Stopped added) = ¬ IsGood m p × (added ≡ m.shape.vertices - before)
+  ReportsOf m p before (Done added excepted) = IsGood m p × (added ≡ m.shape.vertices - before) × HasExceptions m p excepted
+  ReportsOf m p before (Stopped added excepted) = ¬ IsGood m p × (added ≡ m.shape.vertices - before) × HasExceptions m p excepted
 
   abbrev pub Reports : Mesh Point DE Mark F → Mesh Point DE Mark F → RefinementParameters → Refined → Type 0
   Reports old new p = ReportsOf new p old.shape.vertices

@@ -3,7 +3,8 @@
 use crate::centers::off_center;
 use crate::parameters::{RefinedFaces, RefinementParameters};
 use crate::points::{Corners, Side, side_of};
-use crate::quality::{is_small, is_wide};
+use crate::queue::{Queue, Ranked};
+use crate::ranks::Sides;
 use crate::segments::{is_encroached, split_point};
 use crate::ways::{End, encroached, walk};
 use dcel_constrained::ConstrainedMesh;
@@ -29,9 +30,8 @@ pub(crate) struct Placement {
 pub(crate) struct Due<A: Allocator> {
     // Half edges that are constraints, or were.
     constraints: Vec<FixedDirectedEdgeHandle, A>,
-    // A half edge of each triangle, those before `next` were looked at.
-    triangles: Vec<FixedDirectedEdgeHandle, A>,
-    next: usize,
+    // A half edge of each triangle.
+    triangles: Queue<A>,
     // Of each face, whether it is one of those to be refined.
     refined: Vec<bool, A>,
     // Room for a search: nothing between calls.
@@ -42,13 +42,12 @@ impl<A: Allocator + Clone> Due<A> {
     /// Lists nothing.
     pub(crate) fn new(alloc: A) -> Result<Due<A>, AllocError> {
         let constraints = Vec::new(alloc.clone()?);
-        let triangles = Vec::new(alloc.clone()?);
+        let triangles = Queue::new(alloc.clone()?)?;
         let refined = Vec::new(alloc.clone()?);
         let search = Vec::new(alloc);
         Ok(Due {
             constraints,
             triangles,
-            next: 0,
             refined,
             search,
         })
@@ -56,10 +55,9 @@ impl<A: Allocator + Clone> Due<A> {
 }
 
 impl<A: Allocator> Due<A> {
-    /// Lists all constraints, and all triangles to be refined, by the depths of the faces.
-    pub(crate) fn list_all(
+    /// Notes which faces are to be refined, by their depths.
+    pub(crate) fn take_depths(
         &mut self,
-        mesh: &ConstrainedMesh<A>,
         depths: &[usize],
         faces: RefinedFaces,
     ) -> Result<(), AllocError> {
@@ -69,17 +67,33 @@ impl<A: Allocator> Due<A> {
                 RefinedFaces::Inside => *depth % 2 == 1,
             })?;
         }
+        Ok(())
+    }
+
+    /// Notes which faces are to be refined, by the flags of the inner faces.
+    pub(crate) fn take_flags(&mut self, flags: &[bool]) -> Result<(), AllocError> {
+        self.refined.push(false)?;
+        self.refined.extend_from_slice(flags)
+    }
+
+    /// Lists all constraints, and all bad triangles.
+    pub(crate) fn list_all(
+        &mut self,
+        mesh: &ConstrainedMesh<A>,
+        parameters: &RefinementParameters,
+    ) -> Result<(), AllocError> {
         for number in 0..mesh.num_directed_edges() {
-            self.list(mesh, FixedDirectedEdgeHandle::new(number))?;
+            self.list(mesh, FixedDirectedEdgeHandle::new(number), parameters)?;
         }
         Ok(())
     }
 
-    // Lists a half edge as a constraint if it is one, and as its triangle if that is to be refined.
+    // Lists a half edge as a constraint if it is one, and its triangle if that is bad.
     fn list(
         &mut self,
         mesh: &ConstrainedMesh<A>,
         half: FixedDirectedEdgeHandle,
+        parameters: &RefinementParameters,
     ) -> Result<(), AllocError> {
         let Some(side) = side_of(mesh, half) else {
             return Ok(());
@@ -88,8 +102,21 @@ impl<A: Allocator> Due<A> {
             self.constraints.push(half)?;
         }
         // Of the half edges of a triangle the one with the least number says that it is due.
-        if self.is_refined(side.face) && half < side.next && half < side.prev {
-            self.triangles.push(half)?;
+        if half < side.next && half < side.prev {
+            self.list_triangle(mesh, half, parameters)?;
+        }
+        Ok(())
+    }
+
+    // Lists the triangle of a half edge, if it is bad.
+    fn list_triangle(
+        &mut self,
+        mesh: &ConstrainedMesh<A>,
+        half: FixedDirectedEdgeHandle,
+        parameters: &RefinementParameters,
+    ) -> Result<(), AllocError> {
+        if let Some(rank) = self.rank(mesh, half, parameters) {
+            self.triangles.push(Ranked { half, rank })?;
         }
         Ok(())
     }
@@ -108,11 +135,10 @@ impl<A: Allocator> Due<A> {
             return Ok(Some(split));
         }
         for _triangle in 0..self.triangles.len() {
-            let Some(half) = self.triangles.get(self.next).copied() else {
+            let Some(ranked) = self.triangles.pop() else {
                 return Ok(None);
             };
-            self.next = self.next.saturating_add(1);
-            if let Some(placement) = self.placement_for(mesh, half, parameters)? {
+            if let Some(placement) = self.placement_for(mesh, ranked, parameters)? {
                 return Ok(Some(placement));
             }
         }
@@ -163,17 +189,18 @@ impl<A: Allocator> Due<A> {
     }
 
     // Returns the point to be inserted for the triangle of a half edge, if it is to be refined and
-    // isn't good: one near its center, or one on a constraint that is in the way.
+    // still has its rank: one near its center, or one on a constraint that is in the way.
     fn placement_for(
         &mut self,
         mesh: &ConstrainedMesh<A>,
-        half: FixedDirectedEdgeHandle,
+        ranked: Ranked,
         parameters: &RefinementParameters,
     ) -> Result<Option<Placement>, AllocError> {
-        let Some(corners) = self.corners_if_bad(mesh, half, parameters) else {
+        let half = ranked.half;
+        if self.rank(mesh, half, parameters) != Some(ranked.rank) {
             return Ok(None);
-        };
-        let Some(center) = off_center(corners, parameters.angle) else {
+        }
+        let Some(center) = center_of(mesh, half, parameters) else {
             return Ok(None);
         };
         let wall = match walk(mesh, half, center) {
@@ -190,25 +217,28 @@ impl<A: Allocator> Due<A> {
                 is_right_refined: true,
             }));
         };
+        let Some(split) = self.split(mesh, wall) else {
+            return Ok(None);
+        };
         // The triangle may still be there, and bad, when the constraint is split.
-        self.triangles.push(half)?;
-        Ok(self.split(mesh, wall))
+        self.triangles.push(ranked)?;
+        Ok(Some(split))
     }
 
-    // Returns the corners of the triangle of a half edge, if it is to be refined and isn't good.
-    fn corners_if_bad(
+    // Returns the rank of the triangle of a half edge, if it is to be refined and isn't good.
+    fn rank(
         &self,
         mesh: &ConstrainedMesh<A>,
         half: FixedDirectedEdgeHandle,
         parameters: &RefinementParameters,
-    ) -> Option<Corners> {
-        let side = side_of(mesh, half)?;
-        let next = side_of(mesh, side.next)?;
-        let prev = side_of(mesh, side.prev)?;
-        let is_good = is_good(side, prev, parameters)
-            && is_good(next, side, parameters)
-            && is_good(prev, next, parameters);
-        (self.is_refined(side.face) && !is_good).then_some(side.corners)
+    ) -> Option<usize> {
+        let first = side_of(mesh, half)?;
+        if !self.is_refined(first.face) {
+            return None;
+        }
+        let next = side_of(mesh, first.next)?;
+        let prev = side_of(mesh, first.prev)?;
+        Sides { first, next, prev }.rank(parameters)
     }
 
     /// Lists what is new around a vertex that was inserted.
@@ -217,6 +247,7 @@ impl<A: Allocator> Due<A> {
         mesh: &ConstrainedMesh<A>,
         vertex: FixedVertexHandle,
         placement: Placement,
+        parameters: &RefinementParameters,
     ) -> Result<(), AllocError> {
         let Some(start) = out_edge(mesh, vertex) else {
             return Ok(());
@@ -228,6 +259,7 @@ impl<A: Allocator> Due<A> {
             };
             let before = side.prev;
             self.list_spoke(mesh, half, side, placement)?;
+            self.list_triangle(mesh, half, parameters)?;
             half = before.rev();
             if half == start {
                 return Ok(());
@@ -236,7 +268,8 @@ impl<A: Allocator> Due<A> {
         Ok(())
     }
 
-    // Lists a half edge of a new vertex, and its triangle with the side across from the vertex.
+    // Lists a half edge of a new vertex, and the side across from it, where they are constraints, and
+    // notes whether the triangle between them is to be refined.
     fn list_spoke(
         &mut self,
         mesh: &ConstrainedMesh<A>,
@@ -251,7 +284,6 @@ impl<A: Allocator> Due<A> {
             self.constraints.push(half.rev())?;
         }
         if is_refined {
-            self.triangles.push(half)?;
             self.constraints.push(side.next)?;
         }
         Ok(())
@@ -268,12 +300,13 @@ impl<A: Allocator> Due<A> {
     }
 }
 
-// Returns whether the corner where a half edge starts is good, by the half edge before it.
-fn is_good(side: Side, prev: Side, parameters: &RefinementParameters) -> bool {
-    let Corners { from, to, opposite } = side.corners;
-    is_small(parameters.max_doubled_area, from, to, opposite)
-        && (is_wide(parameters.angle, from, to, opposite)
-            || side.is_constraint && prev.is_constraint)
+// Returns the point that is to be inserted for the triangle of a half edge, if there is one.
+fn center_of<A: Allocator>(
+    mesh: &ConstrainedMesh<A>,
+    half: FixedDirectedEdgeHandle,
+    parameters: &RefinementParameters,
+) -> Option<Point> {
+    off_center(side_of(mesh, half)?.corners, parameters.angle)
 }
 
 // Returns whether a triangle at a new vertex is one of those to be refined: by the side of the split

@@ -12,10 +12,13 @@ mod judging;
 mod parameters;
 mod points;
 mod quality;
+mod queue;
+mod ranks;
 mod refining;
 mod segments;
 mod vectors;
 mod ways;
 
+pub use judging::are_refined;
 pub use parameters::{AngleLimit, RefinedFaces, RefinementParameters};
-pub use refining::{Refined, refine};
+pub use refining::{Refined, refine, refine_faces};

@@ -85,7 +85,10 @@ pub(crate) fn dot_product(a: Point, b: Point, p: Point) -> i128
 }
 
 /// Returns whether a half edge and the one before it are constraints.
-fn is_given_corner<A: Allocator>(mesh: &ConstrainedMesh<A>, half: FixedDirectedEdgeHandle) -> bool
+pub(crate) fn is_given_corner<A: Allocator>(
+    mesh: &ConstrainedMesh<A>,
+    half: FixedDirectedEdgeHandle,
+) -> bool
     requires closed { mesh.now.shape.removal ≡ Closed }
     requires within { half < 2 * mesh.now.shape.edges }
     ensures { IsTrue result ↔ IsGivenCorner mesh.now half }

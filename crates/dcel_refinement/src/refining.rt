@@ -10,7 +10,7 @@ ghost use Rattle.dcel_refinement.specs.Quality.{IsGood};
 ghost use Rattle.dcel_refinement.specs.Refined.{AddsAtMost, Reports, ReportsOf};
 
 use crate::due::Due;
-use crate::judging::is_good;
+use crate::judging::{count_exceptions, is_good};
 use crate::parameters::RefinementParameters;
 use dcel_constrained::ConstrainedTriangulation;
 use dcel_planar::InsertionError;
@@ -24,6 +24,8 @@ pub enum Refined {
     Done {
         /// The number of vertices added.
         added: usize,
+        /// The number of exceptions: corners between two constraints that are smaller than asked.
+        excepted: usize,
     },
     /// Some triangle to be refined isn't as wanted: as many vertices were added as allowed, or none
     /// was found that would make it better, as where two constraints meet in a small angle or a
@@ -31,6 +33,8 @@ pub enum Refined {
     Stopped {
         /// The number of vertices added.
         added: usize,
+        /// The number of exceptions: corners between two constraints that are smaller than asked.
+        excepted: usize,
     },
 }
 
@@ -40,7 +44,8 @@ pub enum Refined {
 /// All vertices stay, with their numbers; those that are new come after them. Constraints stay: one on
 /// which vertices are added becomes constraints from one to the next, and no other edge is one. The
 /// result is exact: [`Refined::Done`] means that each corner of the faces to be refined has at least
-/// the angle, unless both its sides are constraints, and each of these faces at most the area.
+/// the angle, unless both its sides are constraints, and each of these faces at most the area. It also
+/// has the number of those exceptions.
 ///
 /// New vertices have whole coordinates, so a segment can be split only where it has a point with whole
 /// coordinates between its ends: multiply all coordinates by a power of two first, as 4096.
@@ -61,14 +66,52 @@ pub fn refine<A: Allocator + Clone>(
 {
     every_mesh(triangulation.dcel());
     let before = triangulation.dcel().num_vertices();
+    add_vertices(triangulation, &alloc, parameters, None)?;
+    Ok(judged(triangulation, alloc, parameters, before)?)
+}
+
+/// Adds vertices as [`refine`] does, where other faces are to be refined than the parameters name: the
+/// inner faces whose flag is set, of flags in the order of the faces' numbers, and what becomes of them.
+/// Where the flags of two faces side by side differ, the edge between them should be a constraint: other
+/// edges are flipped.
+///
+/// [`are_refined`](crate::are_refined) tests, for the faces that there are then, whether each is as
+/// wanted. What stays, and what failures leave, is as after [`refine`].
+pub fn refine_faces<A: Allocator + Clone>(
+    triangulation: &mut ConstrainedTriangulation<A>,
+    alloc: A,
+    parameters: &RefinementParameters,
+    is_wanted: &[bool],
+) -> Result<(), InsertionError>
+    ensures adds { AddsAtMost (marked_mesh triangulation.old) (marked_mesh triangulation.new) parameters.now.max_additional_vertices }
+    ensures splits { SplitsMarked (marked_mesh triangulation.old) (marked_mesh triangulation.new) }
+    ensures whole { OnOk result (IsWholeMesh triangulation.new.planar) }
+    ensures fails { IfErr result (FailsToInsertAll triangulation.old.planar triangulation.new.planar) }
+{
+    add_vertices(triangulation, &alloc, parameters, Some(is_wanted))
+}
+
+/// Finishes the triangulation, and inserts points until none is due, or as many are inserted as
+/// allowed. Faces are to be refined as their flags say, or as the parameters do.
+fn add_vertices<A: Allocator + Clone>(
+    triangulation: &mut ConstrainedTriangulation<A>,
+    alloc: &A,
+    parameters: &RefinementParameters,
+    is_wanted: Option<&[bool]>,
+) -> Result<(), InsertionError>
+    ensures adds { AddsAtMost (marked_mesh triangulation.old) (marked_mesh triangulation.new) parameters.now.max_additional_vertices }
+    ensures splits { SplitsMarked (marked_mesh triangulation.old) (marked_mesh triangulation.new) }
+    ensures whole { OnOk result (IsWholeMesh triangulation.new.planar) }
+    ensures fails { IfErr result (FailsToInsertAll triangulation.old.planar triangulation.new.planar) }
+{
+    every_mesh(triangulation.dcel());
     let Ok(()) = triangulation.finish() else {
         every_mesh(triangulation.dcel());
         return Err(InsertionError::OutOfMemory);
     };
     every_mesh(triangulation.dcel());
-    let mut due = all_due(triangulation, &alloc, parameters)?;
-    add_all(triangulation, parameters, &mut due)?;
-    Ok(judged(triangulation, alloc, parameters, before)?)
+    let mut due = all_due(triangulation, alloc, parameters, is_wanted)?;
+    add_all(triangulation, parameters, &mut due)
 }
 
 /// Lists all that is to be looked at first.
@@ -76,10 +119,17 @@ fn all_due<A: Allocator + Clone>(
     triangulation: &ConstrainedTriangulation<A>,
     alloc: &A,
     parameters: &RefinementParameters,
+    is_wanted: Option<&[bool]>,
 ) -> Result<Due<A>, AllocError> {
-    let depths = triangulation.regions(alloc.clone()?)?;
     let mut due = Due::new(alloc.clone()?)?;
-    due.list_all(triangulation.dcel(), &depths, parameters.faces)?;
+    match is_wanted {
+        Some(flags) => due.take_flags(flags)?,
+        None => {
+            let depths = triangulation.regions(alloc.clone()?)?;
+            due.take_depths(&depths, parameters.faces)?;
+        }
+    }
+    due.list_all(triangulation.dcel(), parameters)?;
     Ok(due)
 }
 
@@ -126,7 +176,7 @@ fn add_one<A: Allocator + Clone>(
     let inserted = triangulation.insert(placement.point);
     every_mesh(triangulation.dcel());
     let vertex = inserted?;
-    due.list_around(triangulation.dcel(), vertex, placement)?;
+    due.list_around(triangulation.dcel(), vertex, placement, parameters)?;
     Ok(true)
 }
 
@@ -142,9 +192,10 @@ fn judged<A: Allocator + Clone>(
     every_mesh(triangulation.dcel());
     let depths = triangulation.regions(alloc)?;
     let added = triangulation.dcel().num_vertices().saturating_sub(before);
+    let excepted = count_exceptions(triangulation.dcel(), &depths, parameters);
     if is_good(triangulation.dcel(), &depths, parameters) {
-        Ok(Refined::Done { added })
+        Ok(Refined::Done { added, excepted })
     } else {
-        Ok(Refined::Stopped { added })
+        Ok(Refined::Stopped { added, excepted })
     }
 }

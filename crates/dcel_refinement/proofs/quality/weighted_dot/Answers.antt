@@ -1,4 +1,4 @@
-use Rattle.std.proofs.Common.{◌≡◌, ◌∙◌, ℤ, pos, ◌*ℤ◌, ap, arith}
+use Rattle.std.proofs.Common.{◌∙◌, ℤ, pos, ◌*ℤ◌, ap, arith}
 use Rattle.dcel_predicates.proofs.Machine.{held_128}
 use Rattle.dcel_refinement.proofs.quality.weighted_dot.Goals as goal
 
