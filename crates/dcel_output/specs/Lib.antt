@@ -3,3 +3,4 @@ pub mod Keeping
 pub mod Lines
 pub mod Numbering
 pub mod Outlining
+pub mod Whole

@@ -6,10 +6,21 @@ ghost use Rattle.dcel_predicates.specs.declared.point.Point.{Point};
 ghost use Rattle.dcel_delaunay.specs.Triangles.{AreDelaunayTriangles};
 ghost use Rattle.dcel_delaunay.specs.Triangulated.{mesh_in};
 ghost use Rattle.dcel_output.specs.Numbering.{IsNearestNumbered, IsNearestPoint, NumbersVertices, triangles_numbered};
+ghost use Rattle.dcel_output.specs.Whole.{IsDelaunayMesh};
 
 use dcel_delaunay::Triangulation;
 use spade_dcel::laws::every_mesh;
 use std::alloc::Allocator;
+
+/// The mesh of a whole triangulation is a Delaunay triangulation of the points whose numbers its
+/// vertices have.
+pub fn whole_meshes_are_delaunay<A: Allocator>(triangulation: &Triangulation<A>)
+    ensures { (points : List Point) (numbers : List ℕ) → IsWholeMesh triangulation.now.planar → NumbersVertices (mesh_in triangulation.now) points numbers
+        → IsDelaunayMesh points (mesh_in triangulation.now) numbers }
+{
+    let mesh = triangulation.dcel();
+    every_mesh(mesh);
+}
 
 /// The triangles of a whole triangulation, by the numbers of points that its vertices have, are a
 /// Delaunay triangulation of these points.

@@ -3,11 +3,12 @@
 //! [`triangulate_points`] triangulates the points of a list, and keeps the number of a point at each
 //! vertex. [`numbered_triangles`], [`numbered_edges`] and [`numbered_hull`] list what a mesh has by
 //! these numbers, [`nearest_numbers`] finds nearest points, and [`write_triangles`] and its kin write a
-//! line for each item. [`laws`] say what
-//! that means for the points.
+//! line for each item. [`kept`], [`kept_neighbors`] and [`edges_beside`] pick those that are inside an
+//! outline. [`laws`] say what that means for the points.
 #![tactic(auto)]
 
 mod along;
+mod beside;
 mod constraining;
 mod keeping;
 pub mod laws;
@@ -19,8 +20,9 @@ mod triangulating;
 mod turning;
 mod writing;
 
+pub use beside::edges_beside;
 pub use constraining::{SegmentError, constrain};
-pub use keeping::kept;
+pub use keeping::{kept, kept_neighbors};
 pub use nearest::nearest_numbers;
 pub use numbered::{numbered_edges, numbered_hull, numbered_triangles};
 pub use numbering::{number_edges, number_triangles, number_vertices};

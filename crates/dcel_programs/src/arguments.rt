@@ -48,31 +48,7 @@ pub enum Takes<'a> {
     Text(&'a str),
     /// One of these names of formats.
     Format(&'a [&'a str]),
-    /// A power of ten, from 1 to 10^18.
-    PowerOfTen,
 }
-
-const POWERS_OF_TEN: &[&str] = &[
-    "1",
-    "10",
-    "100",
-    "1000",
-    "10000",
-    "100000",
-    "1000000",
-    "10000000",
-    "100000000",
-    "1000000000",
-    "10000000000",
-    "100000000000",
-    "1000000000000",
-    "10000000000000",
-    "100000000000000",
-    "1000000000000000",
-    "10000000000000000",
-    "100000000000000000",
-    "1000000000000000000",
-];
 
 /// An option of which no other one is chosen too.
 #[derive(Clone, Copy)]
@@ -139,10 +115,6 @@ fn with_values<'a>(arg: Arg<'a>, takes: Takes<'a>) -> Arg<'a> {
         Takes::Format(names) => arg
             .value_name("FORMAT")
             .value_parser(ValueParser::Names(names)),
-        Takes::PowerOfTen => arg
-            .value_name("K")
-            .value_parser(ValueParser::Names(POWERS_OF_TEN))
-            .hide_possible_values(true),
     }
 }
 

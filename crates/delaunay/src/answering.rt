@@ -129,7 +129,7 @@ fn answer_constrained<W: Write>(
 }
 
 /// Draws what is asked for, and writes it.
-fn write_drawn<W: Write, UE>(
+pub fn write_drawn<W: Write, UE>(
     rt: &(impl Files + Print + AllocGlobal),
     writer: &mut W,
     arguments: &Arguments,

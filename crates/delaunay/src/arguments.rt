@@ -4,7 +4,11 @@ ghost use Rattle.std.specs.Prelude.{◌≡◌, None, false};
 
 use crate::fault::Wrong;
 use crate::format::{FORMATS, Format};
+use crate::geojson::Which;
+use crate::joins::Form;
+use crate::limits::Limits;
 use crate::quoting::Sentence;
+use crate::task::Task;
 use dcel_decimals::Scale;
 use dcel_programs::{Choice, Given, Program, Switch, Takes};
 
@@ -25,6 +29,8 @@ pub enum Output {
     Off,
     /// The same as Wavefront's OBJ.
     Obj,
+    /// The points.
+    Points,
     /// The words of half edges.
     Words,
     /// The corners and edges of the Voronoi diagram.
@@ -40,6 +46,14 @@ pub struct Arguments<'a> {
     pub format: Format,
     /// Which columns are the coordinates of points; if there is nothing, there are two.
     pub columns: Option<&'a str>,
+    /// Whether constraints that cross are split.
+    pub splits_crossings: bool,
+    /// The smallest angle that triangles are refined to, in degrees.
+    pub refine: Option<&'a str>,
+    /// The largest area that they are refined to.
+    pub max_area: Option<&'a str>,
+    /// How many points are added at most.
+    pub max_points: Option<&'a str>,
     /// The file for a picture.
     pub svg: Option<&'a str>,
     /// The file with the numbers of points that are removed.
@@ -58,6 +72,8 @@ pub struct Arguments<'a> {
     pub output: Option<Output>,
     /// What coordinates are multiplied by; if there is none, the least that makes them whole.
     pub scale: Option<Scale>,
+    /// What is given for that and is no scale.
+    pub no_scale: Option<&'a str>,
     /// Whether they are rounded to a grid.
     pub is_on_grid: bool,
     /// Whether to tell how long the insertions took.
@@ -99,6 +115,30 @@ pub const PROGRAM: Program<'static, Output> = Program {
             letter: None,
             takes: Takes::File,
             help: "Joins the points of closed curves, and writes the triangles inside alone",
+        },
+        Switch {
+            name: "split-crossings",
+            letter: None,
+            takes: Takes::Nothing,
+            help: "Adds a point where constraints cross, if it is on the grid",
+        },
+        Switch {
+            name: "refine",
+            letter: None,
+            takes: Takes::Text("ANGLE"),
+            help: "Adds points until no angle is smaller, from 0 to 45 degrees, but between constraints",
+        },
+        Switch {
+            name: "max-area",
+            letter: None,
+            takes: Takes::Text("AREA"),
+            help: "With --refine, adds points until no triangle is larger, too",
+        },
+        Switch {
+            name: "max-points",
+            letter: None,
+            takes: Takes::Text("N"),
+            help: "With --refine, adds at most so many points, in place of ten million",
         },
         Switch {
             name: "nearest",
@@ -161,9 +201,15 @@ pub const PROGRAM: Program<'static, Output> = Program {
             help: "Writes what --obj writes into this file",
         },
         Switch {
+            name: "points-to",
+            letter: None,
+            takes: Takes::File,
+            help: "Writes all points into this file, those that are added too",
+        },
+        Switch {
             name: "scale",
             letter: None,
-            takes: Takes::PowerOfTen,
+            takes: Takes::Text("K"),
             help: "Multiplies the coordinates by this power of ten, from 1 to 10^18",
         },
         Switch {
@@ -184,7 +230,7 @@ pub const PROGRAM: Program<'static, Output> = Program {
 };
 
 /// How many outputs are written into files.
-pub const FILE_COUNT: usize = 7;
+pub const FILE_COUNT: usize = 8;
 
 /// The options that write outputs into files.
 pub const FILES: [(&str, Output); FILE_COUNT] = [
@@ -195,6 +241,7 @@ pub const FILES: [(&str, Output); FILE_COUNT] = [
     ("neighbors-to", Output::Neighbors),
     ("off-to", Output::Off),
     ("obj-to", Output::Obj),
+    ("points-to", Output::Points),
 ];
 
 /// What no output to standard output can stand beside.
@@ -207,6 +254,7 @@ const ALONE: &[&str] = &[
     "neighbors-to",
     "off-to",
     "obj-to",
+    "points-to",
 ];
 
 const OUTPUTS: &[Choice<'static, Output>] = &[
@@ -247,6 +295,12 @@ const OUTPUTS: &[Choice<'static, Output>] = &[
         help: "Writes them as OBJ, which counts from 1",
     },
     Choice {
+        name: "points",
+        means: Output::Points,
+        excludes: ALONE,
+        help: "Writes all points, those that are added too",
+    },
+    Choice {
         name: "words",
         means: Output::Words,
         excludes: &["outline", "locate"],
@@ -276,6 +330,13 @@ Attributes and markers aren't read. Their points may be numbered from 1: all oth
 0. The segments of a .poly are constraints, or an outline if --outline names that file, and then
 curves inside others are its holes. --constraints and --outline take those of another .poly, too.
 
+Files named .geojson and .json are GeoJSON, as --format says of others. Each position is a point, in
+the order of the file, also the last one of a ring, which equals the first. Two coordinates are
+read, to the last digit. Lines are constraints, and the rings of polygons an outline, in which those
+inside others are holes. If --constraints or --outline is given, only what these name is joined:
+where one of them names the points' file, all its lines and rings are that, and where both do, they
+are what they are without. Positions that are equal, one behind the other, aren't joined.
+
 The file of --remove has a number in each line, with comments and empty lines as above. Points keep
 their numbers, and those that are removed belong to no triangle; of equal points one stays as long
 as one of them isn't removed. The file of --nearest has points as the input has, and what is written
@@ -299,11 +360,27 @@ times, so a curve inside another one is a hole. --edges, --stats and --neighbors
 triangles alone then, while --hull and --nearest take all points. --words can't stand beside
 --outline, nor --voronoi beside --outline or --constraints.
 
+With --refine points are added until no angle of a triangle that is written is smaller, but for
+angles between two edges that stay, and with --max-area until none is larger: an area in the square
+of the coordinates' unit. New points are numbered behind all others, and --points and --points-to
+write all of them. Without an outline the sides of the hull are split as constraints are. Up to 20.7
+degrees this mostly ends, and above 34 rarely. If a triangle isn't as asked in the end, all is
+written, and the status is 1. --stats says the smallest and largest angle and area, too, and how many
+angles there are of each ten degrees.
+
+With --split-crossings constraints and outlines may cross: a point is added where they do, if it is
+one of the grid. If it isn't, that is refused, with the place and the nearest point of the grid.
+
+Only at points of the grid segments can be split. So, with these two options, coordinates are
+multiplied by 10000 more than makes them whole, or as much as is in range, unless --scale says by
+what; and --grid takes a step 4096 times as large. Standard error says how many bits that leaves free,
+and how many points were added. --nearest, --locate and --voronoi can't stand beside them.
+
 --triangles-to, --edges-to and their like write outputs into files, several in one run, and then
 none goes to standard output but that of --nearest. No file is written before all are computed.
 
-Points are removed first, then constraints are put in, and then outlines. A picture has the edges
-that stay wide, in place of the hull.
+Points are removed first, then constraints are put in, then outlines, and then points are added. A
+picture has the edges that stay wide, in place of the hull.
 
 Coordinates are multiplied by the least power of ten that makes all of them whole, which is told on
 standard error unless it is 1, and have to be from -9007199254740992 to 9007199254740992 then. What
@@ -346,11 +423,16 @@ impl<'a> Arguments<'a> {
                 .value("constraints")
                 .or(own_segments(file, format, outline)),
             outline,
+            splits_crossings: given.has("split-crossings"),
+            refine: given.value("refine"),
+            max_area: given.value("max-area"),
+            max_points: given.value("max-points"),
             nearest,
             locate,
             files,
             output: given.choice(OUTPUTS).or(unasked),
             scale: given.value("scale").and_then(scale_of),
+            no_scale: given.value("scale").filter(|word| scale_of(word).is_none()),
             is_on_grid: given.has("grid"),
             is_timed: given.has("time"),
         }
@@ -358,15 +440,80 @@ impl<'a> Arguments<'a> {
 
     /// Returns what is wrong with them, if something is.
     pub fn check(&self) -> Result<(), Wrong> {
+        if let Some(word) = self.no_scale {
+            return Err(Wrong::quoting(Sentence::NoScale, word));
+        }
         if let Some(path) = self.locate.filter(|_| self.asks_for_more()) {
             return Err(Wrong::quoting(Sentence::LocatesAlone, path));
         }
-        match (self.file, self.format, self.output) {
-            (None, Format::Poly, _) => Err(Wrong::quoting(Sentence::ReadTwice, "--format poly")),
-            (Some(file), _, Some(Output::Voronoi)) if self.has_constraints() => {
-                Err(Wrong::quoting(Sentence::Constrained, file))
+        if let (None, Format::Poly) = (self.file, self.format) {
+            return Err(Wrong::quoting(Sentence::ReadTwice, "--format poly"));
+        }
+        self.check_added()?;
+        self.check_joins()
+    }
+
+    /// Returns what is wrong with what adds points, if something is.
+    fn check_added(&self) -> Result<(), Wrong> {
+        let _limits = Limits::of(self)?;
+        if self.adds_points() && (self.places().is_some() || self.is_voronoi()) {
+            return Err(Wrong::quoting(Sentence::AddsAlone, self.adding_option()));
+        }
+        Ok(())
+    }
+
+    /// Returns what is wrong with what joins points, if something is.
+    fn check_joins(&self) -> Result<(), Wrong> {
+        let mut paths = [self.constraints, self.outline].into_iter().flatten();
+        if let Some(path) = paths.find(|path| self.has_other_points(path)) {
+            return Err(Wrong::quoting(Sentence::OtherPaths, path));
+        }
+        match self.output {
+            Some(Output::Voronoi) if self.has_constraints() => {
+                Err(Wrong::quoting(Sentence::Constrained, self.name()))
+            }
+            Some(Output::Words) if self.outline.is_some() => {
+                Err(Wrong::quoting(Sentence::Outlined, self.name()))
             }
             _ => Ok(()),
+        }
+    }
+
+    /// Returns the name of the points' file.
+    fn name(&self) -> &'a str {
+        self.file.unwrap_or("standard input")
+    }
+
+    /// Returns whether a file is GeoJSON and not that of the points.
+    fn has_other_points(&self, path: &str) -> bool {
+        path != self.name() && matches!(Format::of_file(path), Format::Geojson)
+    }
+
+    /// Returns whether lines and rings of the points' own file are constraints and an outline.
+    pub fn takes_own_joins(&self) -> bool {
+        matches!(self.format, Format::Geojson) && !self.has_constraints()
+    }
+
+    /// Returns them with the constraints and the outline that the points' own file has.
+    pub fn with_own_joins(self, task: &Task) -> Self {
+        if !self.takes_own_joins() {
+            return self;
+        }
+        let name = Some(self.name());
+        Arguments {
+            constraints: name.filter(|_| !task.constraints.is_empty()),
+            outline: name.filter(|_| task.has_rings),
+            ..self
+        }
+    }
+
+    /// Returns which paths of the points' own file are joined where it is named for constraints or
+    /// for an outline: all, unless it is for both.
+    pub fn which(&self, form: Form) -> Which {
+        match form {
+            _ if self.constraints != self.outline => Which::All,
+            Form::Pairs => Which::Lines,
+            Form::Curves => Which::Rings,
         }
     }
 
@@ -376,6 +523,24 @@ impl<'a> Arguments<'a> {
             || self.svg.is_some()
             || self.has_constraints()
             || has_some(&self.files)
+    }
+
+    /// Returns whether points may be added.
+    pub fn adds_points(&self) -> bool {
+        self.refine.is_some() || self.splits_crossings
+    }
+
+    /// Returns the option that adds points.
+    fn adding_option(&self) -> &'a str {
+        match self.refine {
+            Some(_) => "--refine",
+            None => "--split-crossings",
+        }
+    }
+
+    /// Returns whether the Voronoi diagram is asked for.
+    fn is_voronoi(&self) -> bool {
+        matches!(self.output, Some(Output::Voronoi))
     }
 
     /// Returns the file with points that are looked for, if there is one.

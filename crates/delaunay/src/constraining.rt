@@ -73,12 +73,13 @@ impl Constrained {
             unit: task.unit,
             is_marked: Some(&self.is_marked),
             inside: self.inside.as_ref(),
+            is_measured: false,
         }
     }
 }
 
 /// Makes constraints of the segments that the files join.
-fn triangulation_of(
+pub fn triangulation_of(
     alloc: Global,
     arguments: &Arguments,
     task: &Task,
@@ -113,7 +114,7 @@ fn fault_of(alloc: Global, arguments: &Arguments, task: &Task, error: SegmentErr
 
 /// Returns what is wrong with the line that joins the segment of this number: constraints come
 /// first, then sides of the outline.
-fn at_line(
+pub fn at_line(
     alloc: Global,
     arguments: &Arguments,
     task: &Task,
@@ -137,7 +138,7 @@ fn at_line(
 }
 
 /// Returns what is inside the outline, if there is one.
-fn inside_of(
+pub fn inside_of(
     alloc: Global,
     arguments: &Arguments,
     task: &Task,
@@ -158,7 +159,10 @@ fn inside_of(
 }
 
 /// Tells of each edge whether it is marked.
-fn marks(alloc: Global, triangulation: &ConstrainedTriangulation) -> Result<Vec<bool>, AllocError> {
+pub fn marks(
+    alloc: Global,
+    triangulation: &ConstrainedTriangulation,
+) -> Result<Vec<bool>, AllocError> {
     let mut marks = Vec::new(alloc);
     for edge in triangulation.dcel().live_undirected_edges() {
         marks.push(triangulation.is_constraint(edge.fix()))?;

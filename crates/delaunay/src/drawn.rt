@@ -43,6 +43,7 @@ impl Drawn {
             unit: task.unit,
             is_marked: None,
             inside: None,
+            is_measured: false,
         }
     }
 }

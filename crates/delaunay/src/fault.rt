@@ -1,8 +1,11 @@
 //! Why the program gives up.
 
+use crate::fraction::Fraction;
 use crate::quoting::{Excerpt, Sentence};
+use crate::unit::Shown;
 use dcel_decimals::{Decimal, DecimalError, Scale};
 use dcel_delaunay::{InsertionError, Point, RemovalError};
+use dcel_geojson::Reason;
 use std::fmt::{self, Debug, Display, Formatter};
 use thiserror::Error;
 
@@ -39,6 +42,9 @@ pub enum Wrong {
     /// A text is refused.
     #[error("{0}: '{1}'")]
     Quoted(Sentence, Excerpt),
+    /// A text is refused that is to be GeoJSON.
+    #[error("{0}: '{1}'")]
+    Geojson(Reason, Excerpt),
     /// Both a scale and a grid are asked for.
     #[error("--grid makes a scale needless: leave out --scale")]
     ScaledGrid,
@@ -66,6 +72,9 @@ pub enum Wrong {
     /// The segment between them crosses one that has to stay.
     #[error("it crosses another constraint")]
     Crossing,
+    /// The place where it crosses one isn't on the grid: that place, and the nearest one that is.
+    #[error("it crosses another constraint at {0} {1}, which is off the grid, whose nearest point is {2}")]
+    OffGrid(Fraction, Fraction, Shown),
     /// A side of an outline is no chain of edges.
     #[error("a side of an outline is no chain of edges")]
     NoChain,
@@ -75,6 +84,9 @@ pub enum Wrong {
     /// A point could not be inserted.
     #[error(transparent)]
     Insertion(InsertionError),
+    /// A refinement ended before all triangles were as asked.
+    #[error("not all triangles are as asked: {0} points were added")]
+    NotRefined(usize),
     /// A point could not be removed.
     #[error("a point can't be removed")]
     NotRemoved,
@@ -90,6 +102,11 @@ impl Wrong {
     /// Returns what is wrong with a text, with its beginning.
     pub fn quoting(sentence: Sentence, text: &str) -> Self {
         Wrong::Quoted(sentence, Excerpt::of(text.trim_ascii()))
+    }
+
+    /// Returns what is wrong with a text that is to be GeoJSON, with its beginning.
+    pub fn quoting_geojson(reason: Reason, text: &str) -> Self {
+        Wrong::Geojson(reason, Excerpt::of(text.trim_ascii()))
     }
 
     /// Returns that a number is out of the range of points, where it is multiplied by this scale.

@@ -9,10 +9,12 @@ pub enum Format {
     Node,
     /// Triangle's points and segments.
     Poly,
+    /// GeoJSON's points, lines and rings.
+    Geojson,
 }
 
 /// The names of the formats.
-pub const FORMATS: &[&str] = &["lines", "node", "poly"];
+pub const FORMATS: &[&str] = &["lines", "node", "poly", "geojson"];
 
 impl Format {
     /// Returns the format of a file: that of this name, if one is given, or else by the file's name.
@@ -20,6 +22,7 @@ impl Format {
         match name {
             Some("node") => Format::Node,
             Some("poly") => Format::Poly,
+            Some("geojson") => Format::Geojson,
             Some(_) => Format::Lines,
             None => file.map_or(Format::Lines, Format::of_file),
         }
@@ -31,6 +34,8 @@ impl Format {
             Format::Node
         } else if file.ends_with(".poly") {
             Format::Poly
+        } else if file.ends_with(".geojson") || file.ends_with(".json") {
+            Format::Geojson
         } else {
             Format::Lines
         }

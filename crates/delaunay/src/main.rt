@@ -15,19 +15,25 @@ mod fields;
 mod foreign;
 mod format;
 mod fraction;
+mod freeing;
+mod geojson;
 mod joins;
+mod limits;
 mod listing;
 mod locating;
+mod measuring;
 mod nearest;
 mod numbering;
 mod outlining;
 mod picture;
 mod quoting;
 mod reading;
+mod refining;
 mod removal;
 mod removing;
 mod saving;
 mod segments;
+mod splitting;
 mod task;
 mod timing;
 mod triangle;
@@ -41,7 +47,9 @@ mod writing;
 use crate::answering::answer;
 use crate::arguments::{Arguments, PROGRAM};
 use crate::fault::Fault;
+use crate::limits::Limits;
 use crate::locating::locate;
+use crate::refining::answer_refined;
 use crate::task::Task;
 use dcel_programs::{Progress, run};
 use std::io::{self, BufWriter, Write};
@@ -62,8 +70,12 @@ fn draw(
     arguments: &Arguments,
 ) -> Result<(), Fault> {
     let task = Task::read(rt, arguments)?;
+    let arguments = arguments.with_own_joins(&task);
+    if let Err(wrong) = arguments.check() {
+        return Err(Fault::Input(wrong));
+    }
     match BufWriter::new(rt.alloc(), io::writer(rt)) {
-        Ok(mut writer) => write_answer(rt, &mut writer, progress, arguments, &task),
+        Ok(mut writer) => write_answer(rt, &mut writer, progress, &arguments, &task),
         Err(error) => Err(Fault::Output(error)),
     }
 }
@@ -76,12 +88,21 @@ fn write_answer(
     arguments: &Arguments,
     task: &Task,
 ) -> Result<(), Fault> {
-    match arguments.locate {
-        None => answer(rt, writer, progress, arguments, task)?,
-        Some(_) => locate(rt, writer, progress, arguments, task)?,
-    }
-    match writer.flush() {
-        Ok(()) => Ok(()),
-        Err(error) => Err(Fault::Output(error)),
+    let limits = match Limits::of(arguments) {
+        Ok(limits) => limits,
+        Err(wrong) => return Err(Fault::Input(wrong)),
+    };
+    let answered = if arguments.adds_points() {
+        answer_refined(rt, writer, progress, arguments, task, limits)
+    } else if arguments.locate.is_some() {
+        locate(rt, writer, progress, arguments, task)
+    } else {
+        answer(rt, writer, progress, arguments, task)
+    };
+    // A refinement that ends too early has written what there is.
+    match (answered, writer.flush()) {
+        (Err(fault), _) => Err(fault),
+        (Ok(()), Ok(())) => Ok(()),
+        (Ok(()), Err(error)) => Err(Fault::Output(error)),
     }
 }

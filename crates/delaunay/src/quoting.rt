@@ -51,6 +51,22 @@ pub enum Sentence {
     LocatesAlone,
     /// It asks for the Voronoi diagram of constraints.
     Constrained,
+    /// It asks for the words of what is inside an outline.
+    Outlined,
+    /// It is no scale.
+    NoScale,
+    /// It is a file of GeoJSON whose points aren't the input.
+    OtherPaths,
+    /// It is no angle that triangles are refined to.
+    NoAngle,
+    /// It is no area.
+    NoArea,
+    /// It is no number of points.
+    NoMost,
+    /// It limits a refinement where none is asked for.
+    LimitsAlone,
+    /// It adds points beside places or the Voronoi diagram.
+    AddsAlone,
 }
 
 impl fmt::Display for Sentence {
@@ -58,7 +74,7 @@ impl fmt::Display for Sentence {
         f.write_str(match self {
             Sentence::NoNumber => "a coordinate is no number",
             Sentence::Brackets => "a point has two numbers without brackets",
-            Sentence::Json => "this looks like JSON, which isn't read",
+            Sentence::Json => "this looks like JSON, of which --format geojson reads GeoJSON",
             Sentence::Xml => "this looks like XML, which isn't read",
             Sentence::Wkt => "this looks like WKT, which isn't read",
             Sentence::Binary => "this is binary, and only text is read",
@@ -89,6 +105,19 @@ impl fmt::Display for Sentence {
                 "--locate stands without --nearest, --svg, constraints and outlines"
             }
             Sentence::Constrained => "--voronoi takes no segments",
+            Sentence::Outlined => "--words takes no outline, which the rings of a GeoJSON are",
+            Sentence::NoScale => {
+                "a scale is a power of ten, from 1 to 10^18, that makes all coordinates whole, as 1000"
+            }
+            Sentence::OtherPaths =>
+                "lines and rings of a GeoJSON join its own points, and the input has others",
+            Sentence::NoAngle => "--refine takes an angle from 0 to 45 degrees",
+            Sentence::NoArea => "--max-area takes an area above 0",
+            Sentence::NoMost => "--max-points takes a whole number",
+            Sentence::LimitsAlone => "--max-area and --max-points need --refine",
+            Sentence::AddsAlone => {
+                "points aren't added beside --nearest, --locate and --voronoi"
+            }
         })
     }
 }

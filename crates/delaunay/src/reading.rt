@@ -4,10 +4,12 @@ use crate::columns::{Columns, Head};
 use crate::fault::{Fault, Wrong};
 use crate::fields::{uncommented, unquoted};
 use crate::format::Format;
+use crate::geojson::read_shapes;
 use crate::triangle::read_points;
 use crate::unit::{Moves, scaled_point};
 use dcel_decimals::{Decimal, Grid, Scale};
 use dcel_delaunay::Point;
+use dcel_geojson::{Path, Shapes};
 use dcel_programs::{numbered_lines, read_text};
 use std::alloc::{AllocError, Global};
 use std::rt::Files;
@@ -19,6 +21,8 @@ pub struct Coordinates {
     lines: Vec<usize>,
     /// The number that the file gives the first point.
     pub first: usize,
+    /// Which points the lines and rings of the file join.
+    pub paths: Vec<Path>,
 }
 
 impl Coordinates {
@@ -33,6 +37,7 @@ impl Coordinates {
             Format::Lines => Coordinates::of_lines(alloc, text, asked),
             Format::Node => read_points(alloc, text, false),
             Format::Poly => read_points(alloc, text, true),
+            Format::Geojson => read_shapes(alloc, text),
         }
     }
 
@@ -78,7 +83,23 @@ impl Coordinates {
             all: Vec::new(alloc),
             lines: Vec::new(alloc),
             first: 0,
+            paths: Vec::new(alloc),
         }
+    }
+
+    /// Returns those of shapes.
+    pub fn of_shapes(shapes: Shapes) -> Self {
+        Coordinates {
+            all: shapes.coordinates,
+            lines: shapes.lines,
+            first: 0,
+            paths: shapes.paths,
+        }
+    }
+
+    /// Returns the line of a point.
+    pub fn line(&self, number: usize) -> usize {
+        self.lines.get(number).copied().unwrap_or(1)
     }
 
     /// Adds a point.

@@ -2,6 +2,9 @@
 
 use crate::arguments::Arguments;
 use crate::fault::{Fault, Wrong};
+use crate::format::Format;
+use crate::freeing::{Room, finest_scale};
+use crate::geojson::{Which, joins_along};
 use crate::joins::{Form, Join, read_joins};
 use crate::numbering::Numbering;
 use crate::reading::{Coordinates, in_file, read_coordinates};
@@ -25,6 +28,8 @@ pub struct Task {
     pub constraints: Vec<Join>,
     /// Which of them are joined by the curves of an outline.
     pub outline: Vec<Join>,
+    /// Whether that is made of the rings of the points' own file.
+    pub has_rings: bool,
     /// The points to which the nearest one is asked for, or that are located.
     pub places: Vec<Point>,
     /// What all coordinates stand for.
@@ -48,6 +53,7 @@ impl Task {
             is_removed: Vec::new(alloc),
             constraints: Vec::new(alloc),
             outline: Vec::new(alloc),
+            has_rings: false,
             places: Vec::new(alloc),
             unit: Unit::Scale(Scale::ONE),
         };
@@ -87,18 +93,33 @@ impl Task {
         asked: &Coordinates,
     ) -> Result<(), Fault> {
         report_first(rt, coordinates.first)?;
-        self.unit = unit_of(rt, arguments, coordinates, asked)?;
+        let room = room_of(rt, arguments, coordinates, asked)?;
+        self.unit = room.unit;
         let mut moves = Moves::NONE;
         self.points = points_of(rt.alloc(), coordinates, self.unit, &mut moves)?;
         if let Unit::Grid(grid) = self.unit {
             self.report_moves(rt, grid, moves, coordinates)?;
         }
-        self.read_numbers(rt, arguments, coordinates.first)?;
+        if arguments.adds_points() {
+            self.take_room(rt, room)?;
+        }
+        self.read_numbers(rt, arguments, coordinates)?;
         self.places = points_of(rt.alloc(), asked, self.unit, &mut moves).map_err(|fault| in_file(
             rt.alloc(),
             arguments.places(),
             fault,
         ))?;
+        Ok(())
+    }
+
+    /// Leaves bits of the coordinates free for new points, and says on standard error how many.
+    fn take_room(&mut self, rt: &(impl Eprint + AllocGlobal), room: Room) -> Result<(), Fault> {
+        self.points = room.finer(rt.alloc(), &self.points)?;
+        self.unit = room.finer_unit();
+        eprintln!(rt;
+            "delaunay: {} bits of coordinates are free for new points",
+            room.bits
+        )?;
         Ok(())
     }
 
@@ -122,27 +143,79 @@ impl Task {
         Ok(())
     }
 
-    /// Reads the files that have numbers of points.
+    /// Reads the files that have numbers of points, and what the points' own file joins.
     fn read_numbers(
         &mut self,
         rt: &(impl Files + Input + AllocGlobal),
         arguments: &Arguments,
-        first: usize,
+        coordinates: &Coordinates,
     ) -> Result<(), Fault> {
-        let count = self.points.len();
-        let numbering = Numbering { count, first };
         if let Some(path) = arguments.remove {
-            self.is_removed = read_marks(rt, path, count)?;
+            self.is_removed = read_marks(rt, path, self.points.len())?;
         }
         if let Some(path) = arguments.constraints {
-            let format = arguments.format_of(path);
-            self.constraints = read_joins(rt, path, format, Form::Pairs, numbering)?;
+            self.constraints = self.joins(rt, arguments, coordinates, path, Form::Pairs)?;
         }
         if let Some(path) = arguments.outline {
-            let format = arguments.format_of(path);
-            self.outline = read_joins(rt, path, format, Form::Curves, numbering)?;
+            self.outline = self.joins(rt, arguments, coordinates, path, Form::Curves)?;
+        }
+        if arguments.takes_own_joins() {
+            self.take_paths(rt.alloc(), coordinates)?;
         }
         Ok(())
+    }
+
+    /// Returns the joins that a file says, which may be that of the points.
+    fn joins(
+        &self,
+        rt: &(impl Files + Input + AllocGlobal),
+        arguments: &Arguments,
+        coordinates: &Coordinates,
+        path: &str,
+        form: Form,
+    ) -> Result<Vec<Join>, Fault> {
+        let format = arguments.format_of(path);
+        if matches!(format, Format::Geojson) {
+            let which = arguments.which(form);
+            return Ok(joins_along(rt.alloc(), coordinates, &self.points, which)?);
+        }
+        let numbering = Numbering {
+            count: self.points.len(),
+            first: coordinates.first,
+        };
+        read_joins(rt, path, format, form, numbering)
+    }
+
+    /// Takes the lines of the points' file as constraints, and its rings as an outline.
+    fn take_paths(&mut self, alloc: Global, coordinates: &Coordinates) -> Result<(), AllocError> {
+        self.constraints = joins_along(alloc, coordinates, &self.points, Which::Lines)?;
+        self.outline = joins_along(alloc, coordinates, &self.points, Which::Rings)?;
+        self.has_rings = coordinates.paths.iter().any(|path| path.is_ring);
+        Ok(())
+    }
+}
+
+/// Returns what coordinates are to stand for, and which of their bits are to be free.
+fn room_of(
+    rt: &(impl Eprint + AllocGlobal),
+    arguments: &Arguments,
+    coordinates: &Coordinates,
+    asked: &Coordinates,
+) -> Result<Room, Fault> {
+    if !arguments.adds_points() {
+        let unit = unit_of(rt, arguments, coordinates, asked)?;
+        return Ok(Room { unit, bits: 0 });
+    }
+    match (arguments.is_on_grid, arguments.scale) {
+        (true, None) => Ok(Room::by_grid(coordinates.grid())),
+        (true, Some(_)) => Err(Fault::Input(Wrong::ScaledGrid)),
+        (false, Some(scale)) => Ok(Room::by_scale(scale, coordinates.scale()?)),
+        (false, None) => {
+            let least = coordinates.scale()?;
+            let scale = finest_scale(rt.alloc(), coordinates, least)?;
+            report_scale(rt, scale)?;
+            Ok(Room::by_scale(scale, least))
+        }
     }
 }
 

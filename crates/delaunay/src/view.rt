@@ -22,6 +22,8 @@ pub struct View<'a, UE> {
     pub is_marked: Option<&'a [bool]>,
     /// What is inside an outline, if nothing else is shown.
     pub inside: Option<&'a Inside>,
+    /// Whether angles and areas belong to its counts.
+    pub is_measured: bool,
     ghost closed: { mesh.now.shape.removal ≡ Closed },
 }
 
@@ -40,6 +42,14 @@ impl<'a, UE> View<'a, UE> {
         match self.numbers.get(vertex) {
             Some(number) => Ok(*number as usize),
             None => Err(io::Error::other("a vertex has no point")),
+        }
+    }
+
+    /// Returns whether an inner face is shown. All are if there is no outline.
+    pub fn shows_face(&self, face: usize) -> bool {
+        match self.inside {
+            Some(inside) => inside.triangles.get(face.saturating_sub(1)) == Some(&true),
+            None => true,
         }
     }
 

@@ -3,7 +3,7 @@
 use crate::view::View;
 use dcel_delaunay::Point;
 use spade_dcel::handles::{FaceHandle, PossiblyOuterTag, VertexHandle};
-use std::alloc::{AllocError, Global};
+use std::alloc::Global;
 use std::io::{self, Write};
 
 /// A face of the triangulation.
@@ -14,11 +14,14 @@ type Vertex<'a, UE> = VertexHandle<'a, Point, (), UE, ()>;
 
 /// Writes the counts, the half edges round each face by `next`, and those out of each point by
 /// `ccw`, from the least on. A point that equals an earlier one is a vertex without edges.
+///
+/// Nothing is written before there is all memory that it takes.
 pub fn write_words<UE>(
     alloc: Global,
     writer: &mut impl Write,
     view: &View<'_, UE>,
 ) -> io::Result<()> {
+    let vertices = vertices_by_point(alloc, view)?;
     writeln!(
         writer,
         "vertices {} edges {} faces {}",
@@ -26,35 +29,31 @@ pub fn write_words<UE>(
         view.mesh.num_undirected_edges(),
         view.mesh.num_faces()
     )?;
-    write_faces(alloc, writer, view)?;
-    write_vertices(alloc, writer, view)
+    write_faces(writer, view)?;
+    write_vertices(writer, &vertices)
 }
 
 /// Writes the half edges round each face.
-fn write_faces<UE>(alloc: Global, writer: &mut impl Write, view: &View<'_, UE>) -> io::Result<()> {
-    let mut halves = Vec::new(alloc);
+fn write_faces<UE>(writer: &mut impl Write, view: &View<'_, UE>) -> io::Result<()> {
     for face in view.mesh.live_faces() {
         write!(writer, "F{}", face.index())?;
-        list_word(face, &mut halves)?;
-        write_halves(writer, &halves)?;
+        write_round(writer, face)?;
+        writeln!(writer)?;
     }
     Ok(())
 }
 
-/// Writes the half edges out of the vertex of each point.
+/// Writes the half edges out of each of these vertices.
 fn write_vertices<UE>(
-    alloc: Global,
     writer: &mut impl Write,
-    view: &View<'_, UE>,
+    vertices: &[Option<Vertex<'_, UE>>],
 ) -> io::Result<()> {
-    let mut halves = Vec::new(alloc);
-    for vertex in vertices_by_point(alloc, view)? {
+    for vertex in vertices {
         write!(writer, "out")?;
-        halves.clear();
         if let Some(vertex) = vertex {
-            list_turn(vertex, &mut halves)?;
+            write_turn(writer, *vertex)?;
         }
-        write_halves(writer, &halves)?;
+        writeln!(writer)?;
     }
     Ok(())
 }
@@ -73,39 +72,57 @@ fn vertices_by_point<'a, UE>(
     Ok(vertices)
 }
 
-/// Lists the half edges round a face.
-fn list_word<UE>(face: Face<'_, UE>, halves: &mut Vec<usize>) -> Result<(), AllocError> {
-    halves.clear();
+/// Writes the half edges round a face, from the least on.
+fn write_round<UE>(writer: &mut impl Write, face: Face<'_, UE>) -> io::Result<()> {
+    let mut least = Least::NONE;
     for edge in face.directed_edges() {
-        halves.push(edge.index())?;
+        least.see(edge.index());
+    }
+    let before = face.directed_edges().take(least.place);
+    for edge in face.directed_edges().skip(least.place).chain(before) {
+        write!(writer, " {}", edge.index())?;
     }
     Ok(())
 }
 
-/// Lists the half edges out of a vertex.
-fn list_turn<UE>(vertex: Vertex<'_, UE>, halves: &mut Vec<usize>) -> Result<(), AllocError> {
+/// Writes the half edges out of a vertex, from the least on.
+fn write_turn<UE>(writer: &mut impl Write, vertex: Vertex<'_, UE>) -> io::Result<()> {
+    let mut least = Least::NONE;
     for edge in vertex.out_edges() {
-        halves.push(edge.index())?;
+        least.see(edge.index());
+    }
+    let before = vertex.out_edges().take(least.place);
+    for edge in vertex.out_edges().skip(least.place).chain(before) {
+        write!(writer, " {}", edge.index())?;
     }
     Ok(())
 }
 
-/// Writes half edges that lie on a cycle, from the least on, and ends the line.
-fn write_halves(writer: &mut impl Write, halves: &[usize]) -> io::Result<()> {
-    let before = place_of_least(halves);
-    for half in halves.iter().skip(before).chain(halves.iter().take(before)) {
-        write!(writer, " {half}")?;
-    }
-    writeln!(writer)
+/// The least of some numbers.
+#[derive(Clone, Copy)]
+struct Least {
+    /// It.
+    number: usize,
+    /// How many were before it.
+    place: usize,
+    /// How many there are.
+    count: usize,
 }
 
-/// Returns the place of the least number, or 0 if there is none.
-fn place_of_least(numbers: &[usize]) -> usize {
-    let (mut found, mut least) = (0, usize::MAX);
-    for (place, number) in numbers.iter().enumerate() {
-        if *number < least {
-            (found, least) = (place, *number);
+impl Least {
+    /// That of none.
+    const NONE: Least = Least {
+        number: usize::MAX,
+        place: 0,
+        count: 0,
+    };
+
+    /// Sees another number.
+    fn see(&mut self, number: usize) {
+        if number < self.number {
+            self.number = number;
+            self.place = self.count;
         }
+        self.count = self.count.saturating_add(1);
     }
-    found
 }

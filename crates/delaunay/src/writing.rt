@@ -8,6 +8,7 @@ ghost use Rattle.delaunay.specs.Answers.{shown};
 
 use crate::arguments::Output;
 use crate::listing::{shown_edges, shown_neighbors, shown_triangles};
+use crate::measuring::write_measures;
 use crate::view::{View, count_shown};
 use crate::voronoi::write_voronoi;
 use crate::words::write_words;
@@ -67,6 +68,7 @@ pub fn write_output<W: Write, UE>(
         Output::Stats => write_stats(writer, view),
         Output::Off => write_off(alloc, writer, view),
         Output::Obj => write_obj(alloc, writer, view),
+        Output::Points => write_coordinates(writer, view),
         Output::Words => write_words(alloc, writer, view),
         Output::Voronoi => write_voronoi(writer, view),
     }
@@ -119,6 +121,9 @@ fn write_stats<UE>(writer: &mut impl Write, view: &View<'_, UE>) -> io::Result<(
     if let Some(marks) = view.is_marked {
         writeln!(writer, "{} constraint edges", count_shown(marks))?;
     }
+    if view.is_measured {
+        write_measures(writer, view)?;
+    }
     Ok(())
 }
 
@@ -162,6 +167,14 @@ fn write_obj<UE>(alloc: Global, writer: &mut impl Write, view: &View<'_, UE>) ->
     let triangles = shown_triangles(alloc, view)?;
     write_points(writer, view, "v ")?;
     write_corners(writer, &triangles, "f ", 1)
+}
+
+/// Writes the coordinates of each point.
+fn write_coordinates<UE>(writer: &mut impl Write, view: &View<'_, UE>) -> io::Result<()> {
+    for point in view.points {
+        writeln!(writer, "{}", view.unit.shown(*point))?;
+    }
+    Ok(())
 }
 
 /// Writes the coordinates of each point, and 0 as the third one, behind some words.
