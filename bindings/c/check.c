@@ -187,6 +187,70 @@ static void check_triangles(void) {
     dcel_free(&mesh);
 }
 
+/* Vertices that are inserted and removed by one call, and edges that are collapsed. */
+static void check_convenience(void) {
+    dcel_mesh mesh = DCEL_MESH_INIT;
+    dcel_removed removed = {77, 77};
+    uint32_t vertex = 77;
+    CHECK(dcel_insert_vertex(&mesh, 1, 5, &vertex) == DCEL_NO_MESH && vertex == 77 && !dcel_can_collapse_edge(&mesh, 0));
+    CHECK(dcel_collapse_edge(&mesh, 0, &removed) == DCEL_NO_MESH && dcel_remove_vertex(&mesh, 0, &removed) == DCEL_NO_MESH);
+    make_round(&mesh);
+    CHECK(dcel_insert_vertex(&mesh, 0, 5, &vertex) == DCEL_NOT_TRIANGLE && dcel_insert_vertex(&mesh, 9, 5, &vertex) == DCEL_NOT_TRIANGLE);
+    CHECK(vertex == 77 && dcel_insert_vertex(&mesh, 1, 5, &vertex) == DCEL_DONE && vertex == 4);
+    CHECK(dcel_num_undirected_edges(&mesh) == 9 && dcel_num_faces(&mesh) == 6);
+    const uint32_t out = (uint32_t)dcel_out_edge(&mesh, 4);
+    CHECK(dcel_can_collapse_edge(&mesh, out) && !dcel_can_collapse_edge(&mesh, 1) && !dcel_can_collapse_edge(&mesh, 99));
+    CHECK(dcel_collapse_edge(&mesh, 0, &removed) == DCEL_NOT_INSIDE && removed.datum == 77);
+    CHECK(dcel_collapse_edge(&mesh, out, &removed) == DCEL_DONE && removed.datum == 5 && removed.moved == DCEL_NONE);
+    CHECK(dcel_num_undirected_edges(&mesh) == 6 && dcel_num_faces(&mesh) == 4 && dcel_sanity_check(&mesh));
+    CHECK(dcel_remove_vertex(&mesh, 9, &removed) == DCEL_NO_SUCH_VERTEX && removed.datum == 5);
+    CHECK(dcel_remove_vertex(&mesh, 0, &removed) == DCEL_DONE && removed.datum == 7 && removed.moved == 3);
+    CHECK(dcel_num_vertices(&mesh) == 3 && dcel_num_undirected_edges(&mesh) == 3 && dcel_num_faces(&mesh) == 2);
+    dcel_free(&mesh);
+}
+
+/* A list of edits leaves the mesh that its calls leave one by one. */
+static void check_edits(void) {
+    dcel_mesh mesh = DCEL_MESH_INIT, other = DCEL_MESH_INIT;
+    const dcel_edit edits[] = {
+        {DCEL_CALL_NEW_TRIANGLE, 7, 8, 9},
+        {DCEL_CALL_APPEND_UNCONNECTED_VERTEX, 10, 0, 0},
+        {DCEL_CALL_INSERT_INTO_TRIANGLE, 3, 0, 0}, /* refused: it is the outer face */
+        {DCEL_CALL_INSERT_INTO_TRIANGLE, 3, 1, 0},
+        {99, 0, 0, 0},
+        {DCEL_CALL_APPEND_UNCONNECTED_VERTEX, 11, 0, 0},
+        {DCEL_CALL_SPLIT_EDGE, 6, 4, 0},
+        {DCEL_CALL_UPDATE_VERTEX, 4, 12, 0},
+        {DCEL_CALL_APPEND_UNCONNECTED_VERTEX, 13, 0, 0},
+        {DCEL_CALL_SWAP_VERTICES, 0, 5, 0},
+        {DCEL_CALL_SWAP_REMOVE_VERTEX, 0, 0, 0},
+    };
+    enum { COUNT = sizeof edits / sizeof *edits };
+    dcel_reply replies[COUNT + 1];
+    memset(replies, 0x55, sizeof replies);
+    CHECK(dcel_apply_all(&mesh, edits, COUNT, replies, COUNT) == DCEL_NO_MESH && replies[0].status == UINT64_C(0x5555555555555555));
+    make_round(&mesh);
+    CHECK(dcel_new(&other) == DCEL_DONE);
+    CHECK(dcel_apply_all(&other, edits, COUNT, replies, COUNT - 1) == DCEL_SHORT && dcel_num_vertices(&other) == 0);
+    CHECK(dcel_apply_all(&other, edits, 0, replies, 0) == DCEL_DONE && replies[0].status == UINT64_C(0x5555555555555555));
+    CHECK(dcel_apply_all(&other, edits, COUNT, replies, COUNT + 1) == DCEL_DONE);
+    CHECK(replies[COUNT].status == UINT64_C(0x5555555555555555));
+    CHECK(replies[0].status == DCEL_DONE && replies[0].number == DCEL_NONE && replies[1].number == 3);
+    CHECK(replies[2].status == DCEL_NO_SUCH_FACE && replies[2].number == DCEL_NONE && replies[3].number == 3);
+    CHECK(replies[4].status == DCEL_NO_SUCH_EDIT && replies[5].number == 4);
+    uint32_t vertex, second;
+    CHECK(dcel_append_unconnected_vertex(&mesh, 11, &vertex) == DCEL_DONE && dcel_split_edge(&mesh, 6, 4, &second) == DCEL_DONE);
+    CHECK(replies[6].status == DCEL_DONE && replies[6].number == second);
+    CHECK(replies[10].status == DCEL_DONE && replies[10].number == 13 && replies[10].moved == 5);
+    uint64_t halves = dcel_num_directed_edges(&mesh), datum = 0;
+    CHECK(halves == dcel_num_directed_edges(&other) && dcel_num_vertices(&other) == 5);
+    for (uint32_t h = 0; h < halves; h++)
+        CHECK(dcel_next(&mesh, h) == dcel_next(&other, h) && dcel_from(&mesh, h) == dcel_from(&other, h));
+    CHECK(dcel_vertex_data(&other, 4, &datum) == DCEL_DONE && datum == 12);
+    dcel_free(&mesh);
+    dcel_free(&other);
+}
+
 static void check_flips(void) {
     dcel_mesh mesh = DCEL_MESH_INIT;
     make_round(&mesh);
@@ -892,6 +956,8 @@ int main(void) {
     check_data();
     check_lines();
     check_triangles();
+    check_convenience();
+    check_edits();
     check_flips();
     check_isolation();
     check_remeshing();

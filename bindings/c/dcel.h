@@ -92,7 +92,12 @@ typedef enum {
     DCEL_FAULTY = 23,  /* no mesh is made of what is given, and a dcel_fault says why */
     DCEL_OUT_OF_RANGE = 24, /* a coordinate is below -2^53 or above 2^53 */
     DCEL_UNFINISHED = 25,   /* the triangulation isn't whole, as there was no memory to make it so */
-    DCEL_CROSSES = 26       /* a segment would cross a constraint */
+    DCEL_CROSSES = 26,      /* a segment would cross a constraint */
+    DCEL_NOT_INSIDE = 27,   /* the faces round a vertex aren't three inner triangles or more, which make a disc */
+    DCEL_SECOND_EDGE = 28,  /* a second edge would join two vertices */
+    DCEL_CUT_VERTEX = 29,   /* the outer face meets the vertex twice */
+    DCEL_SHORT_BORDER = 30, /* the outer face has two half edges */
+    DCEL_NO_SUCH_EDIT = 31  /* of the calls of an edit there is none with that number */
 } dcel_status;
 
 /* Returns the name of a status, as "NoSuchVertex", or "" if it is none. */
@@ -125,6 +130,11 @@ static inline const char *dcel_status_name(uint32_t status) {
     case DCEL_OUT_OF_RANGE: return "OutOfRange";
     case DCEL_UNFINISHED: return "Unfinished";
     case DCEL_CROSSES: return "Crosses";
+    case DCEL_NOT_INSIDE: return "NotInside";
+    case DCEL_SECOND_EDGE: return "SecondEdge";
+    case DCEL_CUT_VERTEX: return "CutVertex";
+    case DCEL_SHORT_BORDER: return "ShortBorder";
+    case DCEL_NO_SUCH_EDIT: return "NoSuchEdit";
     default: return "";
     }
 }
@@ -395,6 +405,68 @@ dcel_status dcel_swap_vertices(dcel_mesh *mesh, uint32_t first, uint32_t second)
    Refusals: NO_SUCH_EDGE, OUT_OF_MEMORY if the list finds no memory at all. */
 dcel_status dcel_legalize_by_number(dcel_mesh *mesh, uint64_t max_flips, const uint32_t *edges,
                                     size_t edges_len, dcel_legalized *legalized);
+
+/* ---- Edits that are several of these calls. They allocate a list, and leave no removal open ---- */
+
+/* Appends a vertex with this datum and inserts it into an inner triangle. Its number is told.
+   Refusals: REMOVAL_OPEN, NOT_TRIANGLE (also where there is no such inner face), NO_ROOM,
+   OUT_OF_MEMORY. */
+dcel_status dcel_insert_vertex(dcel_mesh *mesh, uint32_t face, uint64_t datum, uint32_t *vertex);
+
+/* Removes a vertex wherever it is, with its edges, and fills the hole if it is inside triangles. No new
+   edge joins two vertices that an edge joins. Three kinds of elements get new numbers, the last ones.
+   Refusals: NO_SUCH_VERTEX, REMOVAL_OPEN, NOT_TRIANGLE if a face at the vertex isn't one, CUT_VERTEX,
+   SHORT_BORDER, SECOND_EDGE, NO_ROOM, OUT_OF_MEMORY. */
+dcel_status dcel_remove_vertex(dcel_mesh *mesh, uint32_t vertex, dcel_removed *removed);
+
+/* Collapses an edge: removes the vertex where the half edge starts, and joins what met it to the vertex
+   where the half edge ends.
+   Refusals: REMOVAL_OPEN, NOT_INSIDE (also where there is no such half edge), SECOND_EDGE, NO_ROOM,
+   OUT_OF_MEMORY. */
+dcel_status dcel_collapse_edge(dcel_mesh *mesh, uint32_t edge, dcel_removed *removed);
+
+/* All that dcel_collapse_edge asks is so, but that there is room and memory. */
+bool dcel_can_collapse_edge(const dcel_mesh *mesh, uint32_t edge);
+
+/* ---- Many edits by one call ---- */
+
+/* The calls of edits, and the numbers that each takes, in this order. */
+enum dcel_call {
+    DCEL_CALL_APPEND_UNCONNECTED_VERTEX = 0,               /* datum */
+    DCEL_CALL_NEW_TRIANGLE = 1,                            /* a, b, c */
+    DCEL_CALL_SETUP_INITIAL_TWO_VERTICES = 2,              /* first, second */
+    DCEL_CALL_EXTEND_LINE = 3,                             /* end, vertex */
+    DCEL_CALL_SPLIT_EDGE_WHEN_ALL_VERTICES_ON_LINE = 4,    /* edge, vertex */
+    DCEL_CALL_CREATE_SINGLE_FACE_BETWEEN_EDGE_AND_NEXT = 5, /* edge */
+    DCEL_CALL_CREATE_NEW_FACE_ADJACENT_TO_EDGE = 6,        /* edge, vertex */
+    DCEL_CALL_INSERT_INTO_TRIANGLE = 7,                    /* vertex, face */
+    DCEL_CALL_SPLIT_HALF_EDGE = 8,                         /* edge, vertex */
+    DCEL_CALL_SPLIT_EDGE = 9,                              /* edge, vertex */
+    DCEL_CALL_FLIP_CW = 10,                                /* undirected edge */
+    DCEL_CALL_SWAP_VERTICES = 11,                          /* first, second */
+    DCEL_CALL_UPDATE_VERTEX = 12,                          /* vertex, datum */
+    DCEL_CALL_SWAP_REMOVE_VERTEX = 13,                     /* vertex */
+    DCEL_CALL_REMOVE_WHEN_DEGENERATE = 14,                 /* vertex */
+    DCEL_CALL_CLEAR = 15                                   /* nothing */
+};
+
+/* An edit: an enum dcel_call, and the numbers that it takes. What it doesn't take isn't read. */
+typedef struct {
+    uint64_t call, first, second, third;
+} dcel_edit;
+
+/* What the call of an edit returned: its dcel_status; the number that it tells, or the datum of a vertex
+   that was taken out; and the old number of the vertex that has the number of that one now. Where nothing
+   is told, DCEL_NONE. */
+typedef struct {
+    uint64_t status, number, moved;
+} dcel_reply;
+
+/* Makes these edits, one after the other, and puts what each returned into the buffer. One that is refused
+   changes nothing, and the next follows. The buffer must have a place for each; what lies behind stays.
+   Refusals: SHORT. */
+dcel_status dcel_apply_all(dcel_mesh *mesh, const dcel_edit *edits, size_t edits_len, dcel_reply *replies,
+                           size_t replies_len);
 
 /* ---- Removals: one is opened, cleaned up, and closed by taking the vertex out ----
 

@@ -93,6 +93,25 @@ static uint32_t call_isolate(dcel_mesh *mesh) {
     return dcel_isolate_vertex_and_fill_hole(mesh, border, (size_t)count, 3, edges, 8, faces, 8, &opened);
 }
 
+static uint32_t call_insert_vertex(dcel_mesh *mesh) {
+    uint32_t vertex;
+    return dcel_insert_vertex(mesh, 1, 12, &vertex);
+}
+static uint32_t call_remove_vertex(dcel_mesh *mesh) {
+    dcel_removed removed;
+    return dcel_remove_vertex(mesh, 3, &removed);
+}
+static uint32_t call_collapse(dcel_mesh *mesh) {
+    dcel_removed removed;
+    return dcel_collapse_edge(mesh, (uint32_t)dcel_out_edge(mesh, 3), &removed);
+}
+static uint32_t call_edits(dcel_mesh *mesh) {
+    const dcel_edit edit = {DCEL_CALL_INSERT_INTO_TRIANGLE, 4, 1, 0};
+    dcel_reply reply;
+    uint32_t status = dcel_apply_all(mesh, &edit, 1, &reply, 1);
+    return status == DCEL_DONE ? (uint32_t)reply.status : status;
+}
+
 static uint32_t call_links(dcel_mesh *mesh) {
     dcel_half_edge all[12];
     const uint64_t data[5] = {1, 2, 3, 4, 5};
@@ -117,7 +136,8 @@ typedef struct {
 static const growth CALLS[] = {
     {"new", call_new},       {"triangle", call_triangle}, {"insert", call_insert},   {"split", call_split},
     {"append", call_append}, {"reserve", call_reserve},   {"isolate", call_isolate},
-    {"links", call_links},   {"faces", call_faces},
+    {"links", call_links},   {"faces", call_faces},       {"edits", call_edits},     {"collapse", call_collapse},
+    {"insert vertex", call_insert_vertex}, {"remove vertex", call_remove_vertex},
 };
 
 /* Refuses the requests of a call from the first on, then from the second on, until it has enough. */

@@ -4,13 +4,14 @@
 of a polygon, and `replies` answers lines. Each way in which a call can be refused is an error of its own, under `DcelError`."""
 
 from ._constrained import ConstrainedDelaunay
-from ._declared import NO_LINK, Ended, FaultKind, Place, RemovalState, Status
+from ._declared import NO_LINK, Call, Ended, FaultKind, Place, RemovalState, Status
 from ._declared import VERSION as __version__
 from ._delaunay import Delaunay
 from ._errors import (
     BadRing,
     BadStrip,
     Crosses,
+    CutVertex,
     DcelError,
     EdgesStand,
     Fault,
@@ -21,9 +22,11 @@ from ._errors import (
     NoRemoval,
     NoRoom,
     NoSuchEdge,
+    NoSuchEdit,
     NoSuchFace,
     NoSuchVertex,
     NotBridge,
+    NotInside,
     NotLineEnd,
     NotOuter,
     NotPath,
@@ -32,7 +35,9 @@ from ._errors import (
     OutOfRange,
     RemovalOpen,
     SameVertex,
+    SecondEdge,
     Short,
+    ShortBorder,
     Unfinished,
     VertexInUse,
     WouldLoop,
@@ -45,9 +50,10 @@ from ._polygon import triangulate_polygon
 from ._refining import Refined
 
 __all__ = [
-    "NO_LINK", "BadRing", "BadStrip", "ConstrainedDelaunay", "Crosses", "Dcel", "DcelError", "Delaunay", "EdgesStand", "Ended", "Fault",
-    "FaultKind", "Faulty", "GivenUp", "Grid", "HalfEdge", "Inexact", "Legalized", "Links", "NoMesh", "NoRemoval", "NoRoom", "NoSuchEdge",
-    "NoSuchFace", "NoSuchVertex", "NotBridge", "NotLineEnd", "NotOuter", "NotPath", "NotTriangle", "Opened", "OutOfMemory", "OutOfRange",
-    "Place", "Refined", "RemovalOpen", "RemovalState", "Removed", "SameVertex", "Short", "Status", "Unfinished", "VertexInUse",
-    "WouldLoop", "WrongLists", "__version__", "replies", "triangulate_polygon",
+    "NO_LINK", "BadRing", "BadStrip", "Call", "ConstrainedDelaunay", "Crosses", "CutVertex", "Dcel", "DcelError", "Delaunay", "EdgesStand",
+    "Ended", "Fault", "FaultKind", "Faulty", "GivenUp", "Grid", "HalfEdge", "Inexact", "Legalized", "Links", "NoMesh", "NoRemoval",
+    "NoRoom", "NoSuchEdge", "NoSuchEdit", "NoSuchFace", "NoSuchVertex", "NotBridge", "NotInside", "NotLineEnd", "NotOuter", "NotPath",
+    "NotTriangle", "Opened", "OutOfMemory", "OutOfRange", "Place", "Refined", "RemovalOpen", "RemovalState", "Removed", "SameVertex",
+    "SecondEdge", "Short", "ShortBorder", "Status", "Unfinished", "VertexInUse", "WouldLoop", "WrongLists", "__version__", "replies",
+    "triangulate_polygon",
 ]

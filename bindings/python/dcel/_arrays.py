@@ -93,6 +93,27 @@ def rows(faces: Iterable[Iterable[int]]) -> tuple[memoryview, memoryview]:
     return memoryview(corners), memoryview(counts)
 
 
+def in_rows(values: Iterable[Any], width: int) -> memoryview:
+    """The numbers of an array of shape (k, width) in a row, of 64 bits, or of rows that may be shorter, which zeros fill."""
+    try:
+        view = memoryview(values)  # type: ignore[arg-type]
+    except TypeError:
+        return memoryview(array("Q", [it for row in values for it in filled(row, width)]))
+    if view.ndim != 2 or view.shape[1] != width:  # type: ignore[index]
+        raise ValueError(f"an array of shape (k, {width}), and not {view.shape}")
+    if view.format in FORMATS["Q"] and view.c_contiguous and view.nbytes:
+        return memoryview(array("Q", view.tobytes()))
+    return memoryview(array("Q", [it for row in view.tolist() for it in row]))
+
+
+def filled(row: Iterable[int], width: int) -> list[int]:
+    """The numbers of a row, with zeros behind them."""
+    found = [wide(it) for it in row]
+    if len(found) > width:
+        raise ValueError(f"a row of up to {width} numbers, and not {len(found)}")
+    return found + [0] * (width - len(found))
+
+
 def zeros(length: int) -> array[int]:
     return array("I", bytes(4 * length))
 

@@ -43,6 +43,11 @@ class Status(enum.IntEnum):
     OUT_OF_RANGE = 24  #: a coordinate is below -2^53 or above 2^53
     UNFINISHED = 25  #: the triangulation isn't whole, as there was no memory to make it so
     CROSSES = 26  #: a segment would cross a constraint
+    NOT_INSIDE = 27  #: the faces round a vertex aren't three inner triangles or more, which make a disc
+    SECOND_EDGE = 28  #: a second edge would join two vertices
+    CUT_VERTEX = 29  #: the outer face meets the vertex twice
+    SHORT_BORDER = 30  #: the outer face has two half edges
+    NO_SUCH_EDIT = 31  #: of the calls of an edit there is none with that number
 
 
 class Ended(enum.IntEnum):
@@ -88,6 +93,27 @@ class FaultKind(enum.IntEnum):
     SIDE_AT_ONE = 21  #: the face at place `number` has corner `from` twice in a row
     SIDE_TWICE = 22  #: faces at places `number` and `other` have the side `from` to `to`
     BORDER_TWICE = 23  #: two sides that no face lies beyond end at vertex `number`
+
+
+class Call(enum.IntEnum):
+    """The calls of edits, and the numbers that each takes, in this order."""
+
+    APPEND_UNCONNECTED_VERTEX = 0  #: datum
+    NEW_TRIANGLE = 1  #: a, b, c
+    SETUP_INITIAL_TWO_VERTICES = 2  #: first, second
+    EXTEND_LINE = 3  #: end, vertex
+    SPLIT_EDGE_WHEN_ALL_VERTICES_ON_LINE = 4  #: edge, vertex
+    CREATE_SINGLE_FACE_BETWEEN_EDGE_AND_NEXT = 5  #: edge
+    CREATE_NEW_FACE_ADJACENT_TO_EDGE = 6  #: edge, vertex
+    INSERT_INTO_TRIANGLE = 7  #: vertex, face
+    SPLIT_HALF_EDGE = 8  #: edge, vertex
+    SPLIT_EDGE = 9  #: edge, vertex
+    FLIP_CW = 10  #: undirected edge
+    SWAP_VERTICES = 11  #: first, second
+    UPDATE_VERTEX = 12  #: vertex, datum
+    SWAP_REMOVE_VERTEX = 13  #: vertex
+    REMOVE_WHEN_DEGENERATE = 14  #: vertex
+    CLEAR = 15  #: nothing
 
 
 class Place(enum.IntEnum):
@@ -137,6 +163,19 @@ class Fault(Structure):
     """A fault: a dcel_fault_kind, and 0 for what that doesn't speak of."""
 
     _fields_ = [("kind", c_uint32), ("number", c_uint64), ("other", c_uint64), ("from", c_uint64), ("to", c_uint64)]
+
+
+class Edit(Structure):
+    """An edit: an enum dcel_call, and the numbers that it takes. What it doesn't take isn't read."""
+
+    _fields_ = [("call", c_uint64), ("first", c_uint64), ("second", c_uint64), ("third", c_uint64)]
+
+
+class Reply(Structure):
+    """What the call of an edit returned: its dcel_status; the number that it tells, or the datum of a vertex that was taken out; and the
+    old number of the vertex that has the number of that one now. Where nothing is told, DCEL_NONE."""
+
+    _fields_ = [("status", c_uint64), ("number", c_uint64), ("moved", c_uint64)]
 
 
 class Point(Structure):
@@ -199,6 +238,8 @@ STRUCTS: dict[str, type[Structure]] = {
     "dcel_opened": Opened,
     "dcel_legalized": Legalized,
     "dcel_fault": Fault,
+    "dcel_edit": Edit,
+    "dcel_reply": Reply,
     "dcel_point": Point,
     "dcel_triangle": Triangle,
     "dcel_triangulation": Triangulation,
@@ -239,6 +280,7 @@ FAULTS = {
 _bool = POINTER(c_bool)
 _across = POINTER(Across)
 _constrained = POINTER(Constrained)
+_edit = POINTER(Edit)
 _ends = POINTER(Ends)
 _fault = POINTER(Fault)
 _half_edge = POINTER(HalfEdge)
@@ -249,6 +291,7 @@ _point = POINTER(Point)
 _position = POINTER(Position)
 _refinement = POINTER(Refinement)
 _removed = POINTER(Removed)
+_reply = POINTER(Reply)
 _triangle = POINTER(Triangle)
 _triangulation = POINTER(Triangulation)
 _uint32 = POINTER(c_uint32)
@@ -306,6 +349,11 @@ FUNCTIONS: dict[str, tuple[Any, tuple[Any, ...]]] = {
     "dcel_flip_cw": (Status, (_mesh, c_uint32)),
     "dcel_swap_vertices": (Status, (_mesh, c_uint32, c_uint32)),
     "dcel_legalize_by_number": (Status, (_mesh, c_uint64, _uint32, c_size_t, _legalized)),
+    "dcel_insert_vertex": (Status, (_mesh, c_uint32, c_uint64, _uint32)),
+    "dcel_remove_vertex": (Status, (_mesh, c_uint32, _removed)),
+    "dcel_collapse_edge": (Status, (_mesh, c_uint32, _removed)),
+    "dcel_can_collapse_edge": (c_bool, (_mesh, c_uint32)),
+    "dcel_apply_all": (Status, (_mesh, _edit, c_size_t, _reply, c_size_t)),
     "dcel_isolate_vertex_and_fill_hole": (Status, (_mesh, _uint32, c_size_t, c_uint32, _uint32, c_size_t, _uint32, c_size_t, _opened)),
     "dcel_remesh_edge_ring": (Status, (_mesh, _uint32, c_size_t, _uint32, c_size_t, _uint32, c_size_t, _opened)),
     "dcel_disconnect_edge_strip": (Status, (_mesh, _uint32, c_size_t, _uint32, c_size_t, _uint32, c_size_t, _opened)),

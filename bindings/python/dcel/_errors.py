@@ -200,6 +200,36 @@ class Crosses(DcelError, ValueError):
     pair: tuple[int, int]  #: the rows of the points that it joins
 
 
+class NotInside(DcelError, ValueError):
+    """The faces round the vertex aren't three inner triangles or more, which make a disc."""
+
+    status = Status.NOT_INSIDE
+
+
+class SecondEdge(DcelError, ValueError):
+    """A second edge would join two vertices."""
+
+    status = Status.SECOND_EDGE
+
+
+class CutVertex(DcelError, ValueError):
+    """The outer face meets the vertex twice."""
+
+    status = Status.CUT_VERTEX
+
+
+class ShortBorder(DcelError, ValueError):
+    """The outer face has two half edges."""
+
+    status = Status.SHORT_BORDER
+
+
+class NoSuchEdit(DcelError, ValueError):
+    """No call of an edit has this number. `apply_all` reports it as a status, and raises nothing."""
+
+    status = Status.NO_SUCH_EDIT
+
+
 ERRORS: dict[int, type[DcelError]] = {kind.status: kind for kind in DcelError.__subclasses__() if kind.status is not None}
 
 for _kind in (DcelError, Inexact, *ERRORS.values()):

@@ -9,7 +9,7 @@ from operator import index
 from typing import Any, NamedTuple, NoReturn, Self
 
 from . import _declared
-from ._arrays import corners_of, flat, listed, number, numbers, start_of, wide, zeros
+from ._arrays import corners_of, flat, in_rows, listed, number, numbers, shaped, start_of, wide, zeros
 from ._calls import library
 from ._declared import NO_LINK, NONE, Ended, RemovalState, Status
 from ._errors import Short, refused
@@ -434,6 +434,51 @@ class Dcel:
         legalized = _declared.Legalized()
         library.dcel_legalize_by_number(self._mesh, wide(max_flips), *listed(numbers(edges)), legalized)
         return Legalized(legalized.flips, Ended(legalized.ended))
+
+    # Edits that are several of these calls.
+
+    def insert_vertex(self, face: int, datum: int) -> int:
+        """Appends a vertex with this datum, inserts it into an inner triangle, and returns its number.
+
+        Raises RemovalOpen, NotTriangle (also where there is no such inner face), NoRoom, OutOfMemory."""
+        return self._told(library.dcel_insert_vertex, number(face), wide(datum))
+
+    def remove_vertex(self, vertex: int) -> Removed:
+        """Removes a vertex wherever it is, with its edges, and fills the hole if it is inside triangles. No new edge joins two vertices that
+        an edge joins already. The last vertex, edges and faces get the free numbers.
+
+        Raises NoSuchVertex, RemovalOpen, NotTriangle if a face at the vertex isn't one, CutVertex, ShortBorder, SecondEdge, NoRoom,
+        OutOfMemory."""
+        return self._removed(library.dcel_remove_vertex, vertex)
+
+    def collapse_edge(self, edge: int) -> Removed:
+        """Collapses an edge: removes the vertex where the half edge starts, and joins what met it to the vertex where the half edge ends.
+
+        Raises RemovalOpen, NotInside (also where there is no such half edge), SecondEdge, NoRoom, OutOfMemory."""
+        return self._removed(library.dcel_collapse_edge, edge)
+
+    def can_collapse_edge(self, edge: int) -> bool:
+        """Whether `collapse_edge` is allowed."""
+        return self._holds(library.dcel_can_collapse_edge, number(edge))
+
+    def apply_all(self, edits: Iterable[Any]) -> Any:
+        """Makes edits, one after the other, by one call, and returns what each returned.
+
+        `edits` is an array of shape (k, 4), or rows of up to four numbers: a `Call`, and the numbers that it takes. The result has the
+        shape (k, 3): a `Status`, 0 for an edit that is made; the number that the call returns, or the datum of a vertex that is taken out;
+        and the old number of the vertex that has its number now. It has `NONE` where a call returns nothing. It is an array of NumPy's if
+        that is installed, and otherwise a memoryview. An edit that is refused changes nothing, and the next follows.
+
+        >>> from dcel import Call
+        >>> mesh = Dcel()
+        >>> mesh.apply_all([(Call.NEW_TRIANGLE, 7, 8, 9), (Call.APPEND_UNCONNECTED_VERTEX, 10), (Call.INSERT_INTO_TRIANGLE, 3, 1)]).tolist()
+        [[0, 18446744073709551615, 18446744073709551615], [0, 3, 18446744073709551615], [0, 3, 18446744073709551615]]
+        """
+        given = in_rows(edits, 4)
+        replies = array("Q", bytes(24 * (len(given) // 4)))
+        edit_list = start_of(given, _declared.Edit), len(given) // 4
+        library.dcel_apply_all(self._mesh, *edit_list, start_of(replies, _declared.Reply), len(replies) // 3)
+        return shaped(replies, 3, "Q")
 
     # Removals: one is opened, cleaned up, and closed by taking the vertex out.
 

@@ -44,6 +44,34 @@ def quad() -> Dcel:
     return mesh
 
 
+def path() -> Dcel:
+    """A line from vertex 0 by 1 to 2. Vertex 3 has no edge."""
+    mesh = line()
+    mesh.extend_line(1, 2)
+    return mesh
+
+
+def closed_off() -> Dcel:
+    """A triangle with a second one from outside, beside edges 0 and 1: the outer face has two half edges."""
+    mesh = triangle()
+    mesh.create_single_face_between_edge_and_next(0)
+    return mesh
+
+
+def flipped() -> Dcel:
+    """`round_` with a spoke flipped: vertex 3 has two edges, and two edges join two of the corners."""
+    mesh = round_()
+    mesh.flip_cw(3)
+    return mesh
+
+
+def crowded() -> Dcel:
+    """`round_` with vertex 4 in the triangle of half edges 1, 6 and 11, so that vertex 3 has four edges."""
+    mesh = round_()
+    mesh.insert_into_triangle(4, 1)
+    return mesh
+
+
 def opened() -> Dcel:
     """A removal of vertex 3 is open, with edges 3, 4, 5 and faces 1, 2, 3."""
     mesh = round_()

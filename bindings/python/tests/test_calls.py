@@ -4,9 +4,11 @@ from __future__ import annotations
 
 import inspect
 import unittest
+from array import array
 from pathlib import Path
 
-from dcel import Dcel, Ended, HalfEdge, RemovalState, Removed
+from dcel import Call, Dcel, Ended, HalfEdge, RemovalState, Removed, Status
+from dcel._declared import NONE
 from meshes import BORDER, STRIP, cleaned, line, opened, points, quad, round_, state, triangle
 
 
@@ -160,6 +162,57 @@ class Edits(unittest.TestCase):
         flips, ended = mesh.legalize_by_number(100, range(6))
         self.assertEqual((flips > 0, ended), (True, Ended.LEGALIZED))
         self.assertEqual(mesh.legalize_by_number(100, []), (0, Ended.LEGALIZED))
+
+
+class Conveniences(unittest.TestCase):
+    def test_insert_and_remove(self) -> None:
+        mesh = round_()
+        before = state(mesh)
+        self.assertEqual(mesh.insert_vertex(2, 9), 5)
+        self.assertEqual((mesh.num_undirected_edges(), mesh.vertex_data(5)), (9, 9))
+        self.assertEqual(mesh.remove_vertex(5), Removed(datum=9, moved=None))
+        self.assertEqual((mesh.num_vertices(), mesh.num_undirected_edges(), mesh.num_faces()), (5, 6, 4))
+        self.assertEqual((len(state(mesh)), mesh.remove_vertex(0)), (len(before), Removed(datum=7, moved=4)))
+
+    def test_collapse(self) -> None:
+        mesh = round_()
+        spoke = mesh.out_edge(3)
+        assert spoke is not None
+        self.assertEqual((mesh.can_collapse_edge(spoke), mesh.can_collapse_edge(spoke ^ 1), mesh.can_collapse_edge(2**32 - 1)), (True, False, False))
+        self.assertEqual(mesh.collapse_edge(spoke), Removed(datum=10, moved=4))
+        self.assertEqual((mesh.num_vertices(), mesh.num_undirected_edges(), mesh.num_faces()), (4, 3, 2))
+
+    def test_apply_all(self) -> None:
+        """A list of edits leaves the mesh that its calls leave one by one."""
+        mesh, other = Dcel(), round_()
+        edits = [
+            (Call.NEW_TRIANGLE, 7, 8, 9),
+            (Call.APPEND_UNCONNECTED_VERTEX, 10),
+            (Call.INSERT_INTO_TRIANGLE, 3, 0),
+            (Call.INSERT_INTO_TRIANGLE, 3, 1),
+            (99,),
+            (Call.APPEND_UNCONNECTED_VERTEX, 11),
+            (Call.FLIP_CW, 0),
+            (Call.SPLIT_EDGE, 6, 4),
+        ]
+        replies = mesh.apply_all(edits).tolist()
+        other.flip_cw(0)
+        second = other.split_edge(6, 4)
+        statuses = [Status.DONE] * 2 + [Status.NO_SUCH_FACE, Status.DONE, Status.NO_SUCH_EDIT] + [Status.DONE] * 3
+        self.assertEqual([status for status, _, _ in replies], statuses)
+        self.assertEqual([number for _, number, _ in replies], [NONE, 3, NONE, 3, NONE, 4, NONE, second])
+        self.assertEqual(state(mesh), state(other))
+        self.assertEqual(len(mesh.apply_all([])), 0)
+
+    def test_apply_all_takes_arrays(self) -> None:
+        mesh = Dcel()
+        flat = array("Q", [Call.NEW_TRIANGLE, 7, 8, 9, Call.APPEND_UNCONNECTED_VERTEX, 10, 0, 0])
+        replies = mesh.apply_all(memoryview(flat).cast("B").cast("Q", (2, 4)))
+        self.assertEqual(replies.tolist(), [[0, NONE, NONE], [0, 3, NONE]])
+        for wrong in (memoryview(flat), memoryview(flat).cast("B").cast("Q", (4, 2)), [(1, 2, 3, 4, 5)]):
+            self.assertRaises(ValueError, mesh.apply_all, wrong)
+        self.assertRaises(OverflowError, mesh.apply_all, [(-1,)])
+        self.assertRaises(OverflowError, mesh.apply_all, [(Call.FLIP_CW, 2**64)])
 
 
 class Removals(unittest.TestCase):

@@ -13,7 +13,7 @@ from pathlib import Path
 from typing import Any
 
 import dcel
-from dcel import ConstrainedDelaunay, Dcel, Delaunay, Ended, FaultKind, Place, RemovalState, Status, _constrained, _declared, _delaunay, _lines, _mesh, _triangulation
+from dcel import Call, ConstrainedDelaunay, Dcel, Delaunay, Ended, FaultKind, Place, RemovalState, Status, _constrained, _declared, _delaunay, _lines, _mesh, _triangulation
 from dcel._calls import library
 from dcel._errors import ERRORS
 
@@ -76,7 +76,7 @@ class Header(unittest.TestCase):
 
     def test_numbers(self) -> None:
         known = {f"DCEL_{it.name}": it.value for kind in (Status, Ended, RemovalState, Place) for it in kind}
-        known |= {f"DCEL_FAULT_{it.name}": it.value for it in FaultKind}
+        known |= {f"DCEL_FAULT_{it.name}": it.value for it in FaultKind} | {f"DCEL_CALL_{it.name}": it.value for it in Call}
         self.assertEqual(set(known), set(re.findall(r"^ +(DCEL_\w+) = \d", HEADER, re.M)))
         known |= {"DCEL_NONE": _declared.NONE, "DCEL_NO_LINK": dcel.NO_LINK}
         self.assertEqual(compiled(f'static_assert({name} == {number}u, "{name}");' for name, number in known.items()), (0, ""))

@@ -10,7 +10,7 @@ from typing import Any
 
 import dcel
 from dcel import Dcel, DcelError, NoMesh
-from meshes import BORDER, STRIP, cleaned, line, opened, points, quad, round_, state, triangle
+from meshes import BORDER, STRIP, cleaned, closed_off, crowded, flipped, line, opened, path, points, quad, round_, state, triangle
 
 EDGE, STEPS = [99], ["next", "prev", "rev", "ccw", "cw", "from_", "to", "face", "directed_edge"]
 
@@ -75,6 +75,19 @@ CASES: list[tuple[type[DcelError], str, Callable[[], Dcel], tuple[Any, ...]]] = 
     (dcel.NoSuchVertex, "swap_vertices", round_, (0, 5)),
     (dcel.GivenUp, "swap_vertices", opened, (0, 3)),
     (dcel.NoSuchEdge, "legalize_by_number", round_, (9, [0, 6])),
+    (dcel.RemovalOpen, "insert_vertex", opened, (1, 0)),
+    (dcel.NotTriangle, "insert_vertex", round_, (0, 0)),
+    (dcel.NotTriangle, "insert_vertex", round_, (4, 0)),
+    (dcel.NoSuchVertex, "remove_vertex", round_, (5,)),
+    (dcel.RemovalOpen, "remove_vertex", opened, (0,)),
+    (dcel.NotTriangle, "remove_vertex", quad, (0,)),
+    (dcel.CutVertex, "remove_vertex", path, (1,)),
+    (dcel.ShortBorder, "remove_vertex", closed_off, (0,)),
+    (dcel.SecondEdge, "remove_vertex", flipped, (3,)),
+    (dcel.RemovalOpen, "collapse_edge", opened, (0,)),
+    (dcel.NotInside, "collapse_edge", round_, (0,)),
+    (dcel.NotInside, "collapse_edge", round_, (12,)),
+    (dcel.SecondEdge, "collapse_edge", crowded, (11,)),
     (dcel.NoSuchVertex, "isolate_vertex_and_fill_hole", round_, (EDGE, 5)),
     (dcel.NoSuchEdge, "isolate_vertex_and_fill_hole", opened, ([1, 3, 12], 3)),
     (dcel.RemovalOpen, "isolate_vertex_and_fill_hole", opened, (BORDER, 3)),

@@ -1,4 +1,6 @@
+pub mod Batch
 pub mod Calls
+pub mod Convenience
 pub mod Data
 pub mod Edits
 pub mod Faces

@@ -3,11 +3,13 @@
 //!
 //! Start with the header, `bindings/c/dcel.h`. The names are those of `spade_dcel` with `dcel_` in
 //! front. All numbers are tested, so a function may be called with any. Below are `dcel_commands`,
-//! which tests and edits, and `dcel_exchange`.
+//! which tests and edits, `dcel_convenience` and `dcel_exchange`.
 #![tactic(auto)]
 
 mod anchors;
+mod batch;
 mod conditions;
+mod convenience;
 mod counts;
 mod data;
 mod edits;
@@ -30,6 +32,7 @@ mod walks;
 mod whole;
 
 pub use anchors::{dcel_adjacent_edge, dcel_get_edge_from_neighbors, dcel_out_edge};
+pub use batch::{DcelEdit, DcelReply, dcel_apply_all};
 pub use conditions::{
     dcel_can_close_outside, dcel_can_create_new_face_adjacent_to_edge, dcel_can_extend_line,
     dcel_can_flip, dcel_can_insert_into_triangle, dcel_can_remove_degenerate,
@@ -37,6 +40,9 @@ pub use conditions::{
     dcel_can_split_edge_when_all_vertices_on_line, dcel_can_split_half_edge, dcel_can_swap_remove,
     dcel_has_room, dcel_is_bridge, dcel_is_line_end, dcel_is_live_edge, dcel_is_live_face,
     dcel_is_live_vertex, dcel_is_triangle, dcel_is_unconnected, dcel_sanity_check,
+};
+pub use convenience::{
+    dcel_can_collapse_edge, dcel_collapse_edge, dcel_insert_vertex, dcel_remove_vertex,
 };
 pub use counts::{
     dcel_num_directed_edges, dcel_num_faces, dcel_num_undirected_edges, dcel_num_vertices,

@@ -15,6 +15,12 @@ pub const NO_SUCH_EDGE: u32 = 2;
 /// The face's number is out of range.
 pub const NO_SUCH_FACE: u32 = 3;
 
+/// A removal is open.
+pub const REMOVAL_OPEN: u32 = 4;
+
+/// A face isn't a triangle.
+pub const NOT_TRIANGLE: u32 = 13;
+
 /// There are no numbers for so many elements.
 pub const NO_ROOM: u32 = 19;
 
@@ -29,6 +35,22 @@ pub const SHORT: u32 = 22;
 
 /// No mesh is made of what is given, and a fault says why.
 pub const FAULTY: u32 = 23;
+
+/// The faces around the vertex, or around the start of the half edge, aren't three or more inner
+/// triangles that make a disc.
+pub const NOT_INSIDE: u32 = 27;
+
+/// A second edge would join two vertices.
+pub const SECOND_EDGE: u32 = 28;
+
+/// The outer face meets the vertex twice.
+pub const CUT_VERTEX: u32 = 29;
+
+/// The outer face has two half edges.
+pub const SHORT_BORDER: u32 = 30;
+
+/// No call of a list of edits has this number.
+pub const NO_SUCH_EDIT: u32 = 31;
 
 /// What answers a call for an element's number where there is none. No element has it.
 pub const NONE: u64 = u64::MAX;

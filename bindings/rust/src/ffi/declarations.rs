@@ -39,6 +39,11 @@ pub(crate) mod status {
     pub(crate) const OUT_OF_RANGE: u32 = 24;
     pub(crate) const UNFINISHED: u32 = 25;
     pub(crate) const CROSSES: u32 = 26;
+    pub(crate) const NOT_INSIDE: u32 = 27;
+    pub(crate) const SECOND_EDGE: u32 = 28;
+    pub(crate) const CUT_VERTEX: u32 = 29;
+    pub(crate) const SHORT_BORDER: u32 = 30;
+    pub(crate) const NO_SUCH_EDIT: u32 = 31;
 }
 
 /// How a legalization ended.
@@ -87,6 +92,27 @@ pub(crate) mod fault_kind {
     pub(crate) const BORDER_TWICE: u32 = 23;
 }
 
+/// The calls of edits, and the numbers that each takes, in this order.
+#[allow(dead_code)]
+pub(crate) mod call {
+    pub(crate) const APPEND_UNCONNECTED_VERTEX: u32 = 0;
+    pub(crate) const NEW_TRIANGLE: u32 = 1;
+    pub(crate) const SETUP_INITIAL_TWO_VERTICES: u32 = 2;
+    pub(crate) const EXTEND_LINE: u32 = 3;
+    pub(crate) const SPLIT_EDGE_WHEN_ALL_VERTICES_ON_LINE: u32 = 4;
+    pub(crate) const CREATE_SINGLE_FACE_BETWEEN_EDGE_AND_NEXT: u32 = 5;
+    pub(crate) const CREATE_NEW_FACE_ADJACENT_TO_EDGE: u32 = 6;
+    pub(crate) const INSERT_INTO_TRIANGLE: u32 = 7;
+    pub(crate) const SPLIT_HALF_EDGE: u32 = 8;
+    pub(crate) const SPLIT_EDGE: u32 = 9;
+    pub(crate) const FLIP_CW: u32 = 10;
+    pub(crate) const SWAP_VERTICES: u32 = 11;
+    pub(crate) const UPDATE_VERTEX: u32 = 12;
+    pub(crate) const SWAP_REMOVE_VERTEX: u32 = 13;
+    pub(crate) const REMOVE_WHEN_DEGENERATE: u32 = 14;
+    pub(crate) const CLEAR: u32 = 15;
+}
+
 /// Where a point is, and what the `number` of a dcel_position is. Each point is at one place alone.
 #[allow(dead_code)]
 pub(crate) mod place {
@@ -100,7 +126,7 @@ pub(crate) mod place {
 
 /// The names of statuses, by number.
 #[cfg(test)]
-pub(crate) const STATUS_NAMES: [&str; 27] = [
+pub(crate) const STATUS_NAMES: [&str; 32] = [
     "Done",
     "NoSuchVertex",
     "NoSuchEdge",
@@ -128,6 +154,11 @@ pub(crate) const STATUS_NAMES: [&str; 27] = [
     "OutOfRange",
     "Unfinished",
     "Crosses",
+    "NotInside",
+    "SecondEdge",
+    "CutVertex",
+    "ShortBorder",
+    "NoSuchEdit",
 ];
 
 /// A mesh, or none: zero bytes are one that isn't open. The fields are the library's. C's

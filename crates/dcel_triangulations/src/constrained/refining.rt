@@ -53,12 +53,12 @@ pub fn refine(
     }
     let wanted = parameters_of(*parameters);
     match dcel_refinement::refine(triangulation.held.as_mut(), alloc, &wanted) {
-        Ok(Refined::Done { added: count }) => {
+        Ok(Refined::Done { added: count, .. }) => {
             *added = count as u64;
             *reached = true;
             DONE
         }
-        Ok(Refined::Stopped { added: count }) => {
+        Ok(Refined::Stopped { added: count, .. }) => {
             *added = count as u64;
             *reached = false;
             DONE
