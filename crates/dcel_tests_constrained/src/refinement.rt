@@ -6,7 +6,9 @@ use dcel_bench::refusing::{Memory, Refusals, Refusing};
 use dcel_bench_points::{Place, points_at};
 use dcel_constrained::{ConstrainedTriangulation, LoadError, Segment};
 use dcel_delaunay::Point;
-use dcel_refinement::{AngleLimit, Refined, RefinedFaces, RefinementParameters, refine};
+use dcel_refinement::{
+    AngleLimit, Refined, RefinedFaces, RefinementParameters, refine, refine_faces,
+};
 use spade_dcel::handles::FixedDirectedEdgeHandle;
 use std::alloc::{Allocator, Global};
 use std::test::Fail;
@@ -124,7 +126,13 @@ fn check_square<A: Allocator + Copy>(
         return Err(Fail::new("there is no memory"));
     };
     holds(
-        matches!(end, Refined::Done { added: 1..=40 }),
+        matches!(
+            end,
+            Refined::Done {
+                added: 1..=40,
+                excepted: 0
+            }
+        ),
         format_args!("{end:?}"),
     )?;
     // The square of the sine of 20 degrees is 0.116977..
@@ -152,7 +160,10 @@ fn check_sharp<A: Allocator + Copy>(
     let first = refined(triangulation, &WANTED, memory).map(|found| found.0);
     same(
         first,
-        Some(Refined::Done { added: 0 }),
+        Some(Refined::Done {
+            added: 0,
+            excepted: 1,
+        }),
         "a corner of the input",
     )?;
     let small = RefinementParameters {
@@ -161,7 +172,14 @@ fn check_sharp<A: Allocator + Copy>(
         ..WANTED
     };
     let second = refined(triangulation, &small, memory).map(|found| found.0);
-    same(second, Some(Refined::Stopped { added: 1 }), "areas")
+    same(
+        second,
+        Some(Refined::Stopped {
+            added: 1,
+            excepted: 1,
+        }),
+        "areas",
+    )
 }
 
 #[test]
@@ -246,4 +264,46 @@ fn limits_of_degrees_are_rounded_up() -> Result<(), Fail> {
 #[test]
 fn refinements_are_refused_memory(rt: HostRuntime) -> Result<(), Fail> {
     refuse_refinement(rt.alloc())
+}
+
+/// Refines all faces of the square, by their flags, with the request of this number refused, and then
+/// without. Returns whether it came.
+fn faces_refused<'a>(
+    triangulation: &mut ConstrainedTriangulation<Memory<'a>>,
+    memory: Memory<'a>,
+    number: u64,
+) -> Result<bool, Fail> {
+    let all = [true; 256];
+    memory.refuse(Refusals::One(number));
+    let first = refine_faces(triangulation, memory, &WANTED, &all).is_ok();
+    let came = memory.requests() > number;
+    memory.refuse(Refusals::None);
+    same(first, !came, "it is refused")?;
+    if came {
+        let again = refine_faces(triangulation, memory, &WANTED, &all).is_ok();
+        holds(again, "it goes on")?;
+    }
+    let sine = least_sine(triangulation);
+    holds(sine >= 116_977, format_args!("{sine}"))?;
+    Ok(came)
+}
+
+/// Refuses each request of a refinement by flags in turn.
+fn refuse_faces(alloc: Global) -> Result<(), Fail> {
+    let points = points_at(&SQUARE, alloc)?;
+    for number in 0..MANY {
+        let memory = Refusing::new(alloc);
+        let Ok(mut triangulation) = polygon(&points, 4, &memory) else {
+            return Err(Fail::new("it isn't loaded"));
+        };
+        if !faces_refused(&mut triangulation, &memory, number)? {
+            return holds(number > 10, "requests were refused");
+        }
+    }
+    Err(Fail::new("more requests than MANY"))
+}
+
+#[test]
+fn refinements_by_flags_are_refused_memory(rt: HostRuntime) -> Result<(), Fail> {
+    refuse_faces(rt.alloc())
 }

@@ -3,7 +3,7 @@
 import re
 
 # What the members of an enum begin with, where it isn't DCEL_ alone.
-PREFIXES = {"dcel_fault_kind": "DCEL_FAULT_"}
+PREFIXES = {"dcel_fault_kind": "DCEL_FAULT_", "dcel_call": "DCEL_CALL_"}
 
 
 def snake(name):

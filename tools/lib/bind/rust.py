@@ -14,7 +14,7 @@ KEPT = {"dcel_mesh": "Mesh", "dcel_triangulation": "Triangulation", "dcel_constr
 # That whose calls are made methods. Those of a triangulation are written by hand, as their statuses aren't all refusals of the crate.
 CALLED = "dcel_mesh"
 # What the crate does without: a mesh has what these lists have. Nothing of it is declared.
-WITHOUT = {"dcel_triangle", "dcel_across", "dcel_ends"}
+WITHOUT = {"dcel_triangle", "dcel_across", "dcel_ends", "dcel_edit", "dcel_reply"}
 # Structs that are written by hand, as their fields are handles. What is made says that they lie as C has them.
 BY_HAND = {"dcel_half_edge": "HalfEdgeEntry"}
 SIZES = {"bool": 1, "uint8_t": 1, "uint32_t": 4, "uint64_t": 8, "size_t": 8}
@@ -28,6 +28,8 @@ HANDLES = {
 }
 # What the crate does without: it walks by steps, and asks for no version but by the name that only one has.
 LEFT_OUT = {"dcel_version", "dcel_rev", "dcel_out_edges", "dcel_face_edges", "dcel_directed_edge", "dcel_replies"}
+# In Rust values go with their elements, so it makes the edits of a list one by one, and removes a vertex by three calls, which list what goes.
+LEFT_OUT |= {"dcel_apply_all", "dcel_insert_vertex", "dcel_remove_vertex", "dcel_collapse_edge", "dcel_can_collapse_edge"}
 LEFT_OUT |= {f"dcel_triangulation_{it}" for it in ("points", "hull", "locate_all", "nearest_all")}
 LEFT_OUT |= {f"dcel_constrained_{it}" for it in ("hull", "locate_all")}
 # What ffi.rs calls itself: how a mesh is made and ends.

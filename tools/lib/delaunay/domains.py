@@ -110,7 +110,27 @@ def plate():
     return Domain("a plate with holes", *joined([square(0.5, 0.5, 0.5), *holes]))
 
 
+def long_shore():
+    """A lake with 100,000 segments, for times."""
+    turns = [2 * math.pi * it / 100_000 for it in range(100_000)]
+    return Domain("a lake with 100,000 segments", *joined([around(0, 0, [0.4 + 0.05 * math.sin(7 * it) + 0.002 * math.sin(997 * it) for it in turns])]))
+
+
 NAMED = [square_with_circle, gears, lake, comb, letter, strip, star, spiral, fan, plate]
+
+
+def curves_of(segments):
+    """The closed curves that segments follow one behind the other, each as its points, and the segments that are in none."""
+    curves, rest, way = [], [], []
+    for segment in segments:
+        if way and way[-1][1] != segment[0]:
+            rest += way
+            way = []
+        way.append(segment)
+        if len(way) > 2 and way[0][0] == segment[1]:
+            curves.append([from_ for from_, _ in way])
+            way = []
+    return curves, [*rest, *way]
 
 
 # Domains made at random.

@@ -1,5 +1,6 @@
 """Files of points as other programs write them, with random faults, and whether the program delaunay refuses those as it should."""
 
+import json
 import os
 import resource
 import subprocess
@@ -14,7 +15,7 @@ SECONDS = 60
 # What may stand on standard error if a file is taken.
 NOTES = ("delaunay: the scale is ", "delaunay: the file numbers its points from 1")
 # Pieces that are put into files.
-PIECES = [b'"', b";", b",", b"\t", b" ", b"\n", b"#", b"\0", b"-", b"nan", b"1e400", b"1e-19", b"99999999999999999999", b"{", b"(", b"\xff", b"\r\n", b"-1", b"0"]
+PIECES = [b'"', b";", b",", b"\t", b" ", b"\n", b"#", b"\0", b"-", b"nan", b"1e400", b"1e-19", b"99999999999999999999", b"{", b"(", b"[", b"]", b"}", b"\xff", b"\r\n", b"-1", b"0"]
 # How many lines the shorter one of two files has whose times are compared, how much longer the other one is, and how much longer it may take.
 LINES, LONGER, SLOWER = 20_000, 8, 24
 
@@ -72,6 +73,41 @@ def poly(rng):
     return {"a.poly": text}, rng.choice([["a.poly"], ["a.poly", "--outline", "a.poly"]])
 
 
+def shape(rng):
+    """A geometry of GeoJSON: points, a line that goes from left to right, or a polygon with a hole."""
+    points = [[x + rng.choice([0, 0, 0.5]), y, *[rng.random()] * rng.randint(0, 1)] for x, y in places(rng)]
+    kinds = {
+        "Point": points[0],
+        "MultiPoint": points,
+        "LineString": sorted(points),
+        "MultiLineString": [sorted(points)],
+        "Polygon": [[[-90, -90], [90, -90], [0, 90], [-90, -90]], [[-9, -9], [0, 9], [9, -9], [-9, -9]]],
+        "MultiPolygon": [[[[-90, -90], [90, -90], [0, 90], [-90, -90]]]],
+    }
+    kind = rng.choice(sorted(kinds))
+    members = [("type", kind), ("coordinates", kinds[kind]), ("bbox", [0, 0, 1e3, 1])]
+    return dict(shuffled(rng, members[: rng.randint(2, 3)]))
+
+
+def shuffled(rng, members):
+    """Members in any order."""
+    return rng.sample(members, len(members))
+
+
+def geojson(rng):
+    """A geometry by itself, in a collection or in features, of which one joins points."""
+    joined, points = shape(rng), {"type": "MultiPoint", "coordinates": places(rng)}
+    feature = dict(shuffled(rng, [("type", "Feature"), ("geometry", joined), ("properties", {"name": "\u00fc\\ \"", "type": [None, {}]})]))
+    whole = rng.choice([
+        joined,
+        dict(shuffled(rng, [("type", "GeometryCollection"), ("geometries", [joined, points])])),
+        dict(shuffled(rng, [("type", "FeatureCollection"), ("features", [feature, {"type": "Feature", "geometry": None}])])),
+    ])
+    name = rng.choice(["a.geojson", "a.json", "a.txt"])
+    text = json.dumps(whole, indent=rng.choice([None, None, 1]), ensure_ascii=rng.random() < 0.5)
+    return {name: text}, [*(["--format", "geojson"] if name == "a.txt" else []), name]
+
+
 def located(rng):
     """Places that are looked for."""
     lines = ["".join(f"{x} {y}\n" for x, y in places(rng)) for _ in range(2)]
@@ -84,7 +120,7 @@ def saved(rng):
     return files, [*words, "--triangles-to", "made.triangles", "--hull-to", "made.hull"]
 
 
-FORMATS = [columns, separated, node, poly, located, saved]
+FORMATS = [columns, separated, node, poly, geojson, located, saved]
 
 
 def mutated(rng, content):
@@ -163,6 +199,10 @@ def check_linear():
         "long comments": lambda n: ("1 2 # " + '"#' * n + "\nx\n", ["a.txt"]),
         "points": lambda n: (f"{n} 2\n" + "".join(f"{it} 1 2\n" for it in range(n)) + "x\n", ["a.node"]),
         "segments": lambda n: (f"2 2\n0 0 0\n1 1 1\n{n + 1}\n" + "0 0 1\n" * n + "x\n", ["a.poly"]),
+        "positions": lambda n: ('{"type": "MultiPoint", "coordinates": [' + "[1, 2],\n" * n + "x]}", ["a.geojson"]),
+        "features": lambda n: ('{"features": [' + '{"properties": {"a": ["\\u00fc"]}, "type": "Feature", "geometry": null},' * n + "x]}", ["a.geojson"]),
+        "collections": lambda n: ('{"type": "GeometryCollection", "geometries": [' * n + "x", ["a.geojson"]),
+        "rings": lambda n: ('{"type": "Polygon", "coordinates": [' + "[[0, 0], [1, 0], [0, 1], [0, 0]]," * n + "[[0, 0]]]}", ["a.geojson"]),
     }
     for kind, make in kinds.items():
         short, long = min(seconds(*make(LINES)) for _ in range(3)), seconds(*make(LINES * LONGER))
