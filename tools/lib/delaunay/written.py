@@ -205,7 +205,7 @@ def others(asked, came):
     yield "an edge missing", "--edges has others", asked, came._replace(edges=came.edges[1:])
     if came.added:
         yield "a point too many", "more points are added than allowed", asked._replace(most=came.added - 1), came
-    yield "told otherwise", "told" if not came.done else "", asked, came._replace(done=not came.done)
+    yield "told otherwise", "told" if came.done else "", asked, came._replace(done=not came.done)
 
 
 NAMES = ["an old point moved", "a point more is told", "a triangle missing", "a triangle twice", "an edge missing", "a point too many", "told otherwise"]
