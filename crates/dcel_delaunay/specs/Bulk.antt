@@ -1,5 +1,5 @@
 -- Many points inserted at once.
-use Rattle.std.specs.Prelude.{◌≡◌, ◌<◌, ◌≤◌, ◌+◌, ◌++◌, ℕ, zero, suc, List, [], ◌∷◌, length, slice_get, Some, All, Contains}
+use Rattle.std.specs.Prelude.{◌≡◌, ◌<◌, ◌≤◌, ◌+◌, ◌++◌, ℕ, zero, suc, List, [], ◌∷◌, length, slice_get, slice_index_or, Option, Some, All, Contains}
 use Rattle.dcel_maps.specs.Words.{count_of}
 use Rattle.dcel_maps.specs.Shapes.{Mesh}
 use Rattle.dcel_predicates.specs.declared.point.Point.{Point}
@@ -20,6 +20,10 @@ pub record ListsEach (count : ℕ) (numbers : List ℕ) : Type 0 where
 unfoldable pub counted : (first many : ℕ) → List ℕ
 counted first zero = []
 counted first (suc many) = first ∷ counted (first + 1) many
+
+-- each of these is the point whose number is in its place of the order, from the place `first` on
+abbrev pub IsAhead : List Point → List ℕ → (first : ℕ) → List (Option Point) → Type 0
+IsAhead points order first ahead = (i : ℕ) (p : Option Point) → slice_get ahead i ≡ Some p → p ≡ slice_get points (slice_index_or order (first + i) 0)
 
 module _ {T : Type 0} (Answers : Point → T → Type 0) where
   -- each point has its answer in the same place of the other list

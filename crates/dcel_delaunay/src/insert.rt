@@ -1,5 +1,6 @@
 //! Many points inserted at once.
 
+mod ahead;
 mod bulk;
 mod curve;
 

@@ -6,6 +6,7 @@ ghost use Rattle.dcel_delaunay.specs.Bulk.{AddsVertices, FailsToInsertAll, Stand
 ghost use Rattle.dcel_delaunay.specs.Triangulated.{mesh_in};
 ghost use Rattle.dcel_planar.specs.Outcomes.{IsWholeMesh};
 
+use crate::insert::ahead::Ahead;
 use crate::insert::curve::insertion_order;
 use crate::triangulation::Triangulation;
 use dcel_planar::{InsertionError, Point};
@@ -51,12 +52,14 @@ impl<A: Allocator + Clone> Triangulation<A> {
         ensures told { OnOk result ((last : P) × FoldsTo (λ before done after. P.step before done tt after) progress (counted 1 (length points.now)) last) }
     {
         let order = insertion_order(alloc.clone()?, points)?;
+        let mut ahead = Ahead::new(&alloc, points.len())?;
         let mut vertices = vec![in alloc; FixedVertexHandle::new(0); points.len()]?;
         self.finish()?;
         self.reserve(points.len())?;
         let mut done = 0;
         for number in &order {
-            self.insert_numbered(points, *number, &mut vertices)?;
+            let point = ahead.next(points, &order, done);
+            self.insert_numbered(points, *number, point, &mut vertices)?;
             done += 1;
             progress(done);
         }
@@ -79,14 +82,17 @@ impl<A: Allocator> Triangulation<A> {
         Ok(())
     }
 
-    /// Inserts the point with this number, and notes its vertex in that place.
+    /// Inserts the point with this number, which is given if there is one, and notes its vertex in
+    /// that place.
     fn insert_numbered(
         &mut self,
         points: &[Point],
         number: usize,
+        given: Option<Point>,
         vertices: &mut Vec<FixedVertexHandle, A>,
     ) -> Result<(), InsertionError>
-        requires { IsWholeMesh self.old.planar }
+        requires whole { IsWholeMesh self.old.planar }
+        requires given { given ≡ slice_get points.now number }
         ensures stands { OnOk result (StandsToo (mesh_in self.old) (mesh_in self.new) points.now number vertices.old.items vertices.new.items) }
         ensures whole { OnOk result (IsWholeMesh self.new.planar) }
         ensures fails { IfErr result (FailsToInsertAll self.old.planar self.new.planar) }
@@ -94,7 +100,7 @@ impl<A: Allocator> Triangulation<A> {
         ensures same { (mesh_in self.new).vertex_data ≡ (mesh_in self.old).vertex_data → mesh_in self.new ≡ mesh_in self.old }
         ensures edges { (mesh_in self.old).shape.edges ≤ (mesh_in self.new).shape.edges }
     {
-        if let Some(point) = point_of(points, number) {
+        if let Some(point) = given {
             let vertex = self.insert_from(self.last, point)?;
             note(vertices, number, vertex);
         }

@@ -1,8 +1,8 @@
-use Rattle.std.proofs.Common.{◌+◌, arith, length, of_calls, sym, subst, take_all, List, ℕ}
+use Rattle.std.proofs.Common.{◌+◌, ◌∙◌, arith, length, of_calls, sym, subst, take_all, List, ℕ}
 use Rattle.std.proofs.lemmas.Result.{err_from_is_err_and}
 use Rattle.dcel_delaunay.proofs.Standing.{adds_both, adds_more, answers_all, answers_more, failed_later, same_both}
 use Rattle.dcel_delaunay.proofs.Telling.{told_all, told_one}
-use Rattle.dcel_delaunay.specs.Bulk.{ListsEach, StandSoFar}
+use Rattle.dcel_delaunay.specs.Bulk.{IsAhead, ListsEach, StandSoFar}
 use Rattle.dcel_delaunay.specs.Triangulated.{mesh_in}
 use Rattle.dcel_planar.specs.Places.{HasPoint}
 use Rattle.dcel_delaunay.proofs.triangulation.Triangulation.insert_all_with.Goals as goal
@@ -20,6 +20,9 @@ loop-number-preserved g c = record {
       c.loop-number.vertices.items c.insert_numbered.new.vertices.items c.loop-number.number-index c.loop-number-test.true c.loop-number.invariant.stand
       c.in_ok-insert_numbered.ensures.stands;
   done = omega (arith, c.loop-number.invariant.done);
+  before = omega (arith, c.next-point.ensures.before);
+  ahead = subst (λ (order : List ℕ). IsAhead c.args.points.now order c.next-point.new.self.first c.next-point.new.self.points.items)
+      (c.deref.ensures.value ∙ sym c.deref-number-items.ensures.value) c.next-point.ensures.ahead;
   callable = search of_calls;
   told = told_one (λ before done after. goal.P-step g before done tt after) c.args.progress c.loop-number.progress c.progress.new.self c.loop-number.done
       (length c.deref-number-items.result.now) c.progress.ensures c.loop-number.invariant.told;

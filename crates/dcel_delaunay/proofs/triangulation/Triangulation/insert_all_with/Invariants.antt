@@ -1,6 +1,6 @@
 use Rattle.std.proofs.Common.{◌≡◌, ◌≤◌, length, take}
 use Rattle.dcel_delaunay.proofs.Telling.{ToldSoFar}
-use Rattle.dcel_delaunay.specs.Bulk.{AddsVertices, StandSoFar}
+use Rattle.dcel_delaunay.specs.Bulk.{AddsVertices, IsAhead, StandSoFar}
 use Rattle.dcel_delaunay.specs.Triangulated.{mesh_in}
 use Rattle.dcel_planar.specs.Outcomes.{IsWholeMesh}
 use Rattle.dcel_delaunay.proofs.triangulation.Triangulation.insert_all_with.Given as goal
@@ -14,6 +14,8 @@ invariant-loop-number g l = record {
   within : l.number-index ≤ length l.number-items;
   stand : StandSoFar (mesh_in l.self) l.points (take l.number-index l.number-items) l.vertices.items;
   done : l.done ≡ l.number-index;
+  before : l.ahead.first ≤ l.done;
+  ahead : IsAhead l.points l.number-items l.ahead.first l.ahead.points.items;
   callable : goal.P-IsAlwaysCallable g l.progress;
   told : ToldSoFar (λ before done after. goal.P-step g before done tt after) l.fn.progress l.progress l.done (length l.number-items);
 }
