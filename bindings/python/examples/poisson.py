@@ -1,12 +1,14 @@
 #!/usr/bin/env python3
-"""Solves Poisson's equation on a lake with islands by linear finite elements: `poisson.py [LARGEST AREA ..]`. It wants NumPy.
+"""Solves Poisson's equation on a lake with islands by linear finite elements: `poisson.py [--picture FILE] [LARGEST AREA ..]`. It wants NumPy.
 
 The outline is refined first: no angle is below 25 degrees, and no triangle larger than the area that is given. On the shores the solution
-is known, and inside its Laplacian. The error, as the root of its mean square, falls as the area does."""
+is known, and inside its Laplacian. The error, as the root of its mean square, falls as the area does. The picture, as SVG, shows the first
+solution: a triangle is blue where it is low, and red where it is high."""
 
 from __future__ import annotations
 
 import sys
+from pathlib import Path
 from typing import Any
 
 import numpy as np
@@ -14,6 +16,8 @@ import numpy as np
 from dcel import ConstrainedDelaunay, Grid
 
 AREAS = [0.4, 0.1, 0.025]
+WIDTH = 600
+COLORS = np.array([[43, 108, 176], [255, 255, 255], [192, 86, 33]])
 
 
 def shore(x: float, y: float, radius: float, count: int, bays: int) -> Any:
@@ -74,12 +78,29 @@ def solved(points: Any, triangles: Any, shores: Any) -> Any:
     return values
 
 
+def drawn(points: Any, triangles: Any, values: Any) -> str:
+    """A picture of values at the points."""
+    left, top = points[:, 0].min(), points[:, 1].max()
+    places = (points - (left, top)) * (1, -1) * (WIDTH / np.ptp(points[:, 0]))
+    means = values[triangles].mean(1)
+    parts = (means - means.min()) / np.ptp(means) * (len(COLORS) - 1)
+    colors = np.stack([np.interp(parts, range(len(COLORS)), it) for it in COLORS.T], 1).round().astype(int)
+    rows = [f'<path fill="#{bytes(color).hex()}" d="M{"L".join(f"{x:.1f} {y:.1f}" for x, y in row)}z"/>' for color, row in zip(colors.tolist(), places[triangles].tolist(), strict=True)]
+    head = f'<svg xmlns="http://www.w3.org/2000/svg" viewBox="-1 -1 {WIDTH + 2} {places[:, 1].max() + 2:.1f}" stroke="#667" stroke-width=".3">'
+    return "\n".join([head, *rows, "</svg>", ""])
+
+
 def main() -> None:
+    picture, given = (sys.argv[2], sys.argv[3:]) if sys.argv[1:2] == ["--picture"] else (None, sys.argv[1:])
     print("largest area   points  triangles          error")
-    for max_area in map(float, sys.argv[1:] or AREAS):
+    for max_area in map(float, given or AREAS):
         points, triangles, shores = lake(max_area)
-        error = np.sqrt(np.mean((solved(points, triangles, shores) - known(points)) ** 2))
+        values = solved(points, triangles, shores)
+        error = np.sqrt(np.mean((values - known(points)) ** 2))
         print(f"{max_area:12g} {len(points):8d} {len(triangles):10d} {error:14.3e}")
+        if picture:
+            Path(picture).write_text(drawn(points, triangles, values))
+            picture = None
 
 
 if __name__ == "__main__":

@@ -11,6 +11,7 @@ from array import array
 from collections.abc import Callable
 from ctypes import POINTER, c_bool, c_uint32, c_uint64, cast, sizeof
 from pathlib import Path
+from time import process_time
 from typing import Any
 from unittest import mock
 
@@ -18,6 +19,7 @@ from dcel import (
     ConstrainedDelaunay,
     Crosses,
     DcelError,
+    Delaunay,
     Grid,
     NoMesh,
     NoSuchEdge,
@@ -100,6 +102,19 @@ class Random(Checked):
                     self.check_place(made, points, point)
                     self.assertEqual(made.locate([point])[0].tolist(), [kind])
         self.assertGreater(crossed, 20)
+
+    def test_many_places(self) -> None:
+        """Locating places takes some of the time that triangulating as many points does: to look at each half edge would take a hundredfold."""
+        rng = random.Random(1)
+        points, places = ([(rng.randint(-LIMIT, LIMIT), rng.randint(-LIMIT, LIMIT)) for _ in range(20_000)] for _ in range(2))
+        made = ConstrainedDelaunay(points, [(0, 1)])
+        begun = process_time()
+        wanted = len(Delaunay(points).simplices)
+        triangulated = process_time()
+        found = made.find_simplex(places)
+        located = process_time()
+        self.assertEqual((wanted, len(found)), (len(made.simplices), len(places)))
+        self.assertLess(located - triangulated, 5 * (triangulated - begun))
 
     def test_faults_are_found(self) -> None:
         """Lists with something wrong in them are judged wrong."""

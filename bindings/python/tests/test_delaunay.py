@@ -14,11 +14,15 @@ from array import array
 from collections.abc import Callable
 from decimal import Decimal
 from fractions import Fraction
+from pathlib import Path
 from typing import Any
 from unittest import mock
 
 from dcel import DcelError, Delaunay, Grid, Inexact, NoMesh, OutOfMemory, OutOfRange, Place
 from interrupting import interrupted
+
+sys.path.append(str(Path(__file__).resolve().parents[3] / "tools/lib"))
+from delaunay import laid  # noqa: E402
 
 LIMIT = 2**53
 FIVE = [(0, 0), (4, 0), (0, 3), (5, 5), (2, 2)]
@@ -69,6 +73,15 @@ class Triangles(unittest.TestCase):
                 made = Delaunay(points)
                 self.check(made, points)
                 self.assertEqual(made.points.tolist(), [list(it) for it in points])
+
+    def test_sets(self) -> None:
+        """200 sets, each list beside exact checks."""
+        for seed in range(200):
+            points = laid.some_points(random.Random(seed), seed, 40)
+            with self.subTest(seed=seed):
+                made = Delaunay(points)
+                lists = (getattr(made, name).tolist() for name in ("simplices", "neighbors", "edges", "hull"))
+                laid.judge(dict(enumerate(points)), set(), laid.Lists(*lists, [], [0] * len(made.simplices)))
 
     def test_line(self) -> None:
         for count in range(4):

@@ -8,11 +8,13 @@ import math
 import random
 import subprocess
 import sys
+import tempfile
 import unittest
 from fractions import Fraction
 from pathlib import Path
 from typing import Any
 from unittest import mock
+from xml.etree import ElementTree
 
 from dcel import ConstrainedDelaunay, DcelError, Grid, NoMesh, OutOfMemory, OutOfRange, Refined, Unfinished, _declared
 from dcel._refining import ANY_AREA, doubled_steps, tangent_of
@@ -262,12 +264,18 @@ class Ended(unittest.TestCase):
 class Elements(unittest.TestCase):
     def test_poisson(self) -> None:
         """The error falls as the largest area does, or nearly so."""
-        ran = subprocess.run([sys.executable, EXAMPLES / "poisson.py", "0.4", "0.1", "0.025"], capture_output=True, text=True, check=True)
+        with tempfile.TemporaryDirectory() as folder:
+            words = [EXAMPLES / "poisson.py", "--picture", f"{folder}/drawn.svg", "0.4", "0.1", "0.025"]
+            ran = subprocess.run([sys.executable, *words], capture_output=True, text=True, check=True)
+            picture = ElementTree.parse(f"{folder}/drawn.svg").getroot()
         rows = [list(map(float, line.split())) for line in ran.stdout.splitlines()[1:]]
         self.assertEqual([area for area, _, _, _ in rows], [0.4, 0.1, 0.025])
         self.assertTrue(all(later[-1] < earlier[-1] / 3 for earlier, later in itertools.pairwise(rows)), rows)
         self.assertTrue(all(triangles > 180 / area for area, _, triangles, _ in rows), rows)
         self.assertLess(rows[-1][-1], 2e-4)
+        paths = [it.attrib for it in picture]
+        self.assertEqual((len(paths), len({it["d"] for it in paths})), (rows[0][2], rows[0][2]))
+        self.assertTrue({"#2b6cb0", "#c05621"} < {it["fill"] for it in paths})
 
 
 if __name__ == "__main__":

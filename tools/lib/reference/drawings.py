@@ -22,7 +22,7 @@ class Drawings:
         """The pictures before and after, where docs/PICTURES.md has them of this call, and how to read them."""
         for said, pictures in self.pictures.get(name, ()):
             shown = [f'<img src="{page.to("pictures/" + it)}" alt="{it[:-4]}">' for names in pictures for it in names]
-            page.add(f"<figure>{' → '.join(shown)}<figcaption>{prose.shown([said], str)}</figcaption></figure>")
+            page.add(f"<figure>{' <span class=then>→</span> '.join(shown)}<figcaption>{prose.shown([said], str)}</figcaption></figure>")
         if name in self.pictures:
             page.add(f"<p class=count>{marked(paragraph(self.text, 'A circle is'))}</p>")
 

@@ -22,6 +22,7 @@ class Exports:
         if it := self.header.functions.get(name):
             page.add(page.code(it.prototype, lexer=CLexer), prose.shown(it.comment.split("\n"), str))
             self.show_statuses(page, it.statuses)
+            page.add(f"<h3>Its part of dcel.h</h3>{prose.shown(it.section.split(chr(10)), str)}" if it.section else "")
             page.add(f'<p><a href="{page.to("dcel_c/index.html#all")}">What holds for all calls</a></p>')
         return it is not None
 

@@ -14,6 +14,7 @@ SECTION = re.compile(r"\s*---- (.*?) ----", re.DOTALL)
 class Declared(NamedTuple):
     prototype: str
     comment: str
+    section: str
     statuses: list
 
 
@@ -36,7 +37,7 @@ class Header:
             if part[1] is None:
                 comment = "" if end and "\n\n" in text[end : part.start()] else comment
                 said = self.named(comment) or ([] if "DCEL_" in comment else self.named(section))
-                yield part[3], Declared(laid_out(part[2]), "\n\n".join(filter(None, (comment, section))), said)
+                yield part[3], Declared(laid_out(part[2]), comment, section, said)
                 end = part.end()
             elif SECTION.match(part[1]):
                 comment, section, end = "", self.plain(SECTION.sub(r"**\1**", part[1], count=1)), 0

@@ -27,7 +27,7 @@ FRAME = """<!doctype html>
 <title>{title}</title>
 <link rel="stylesheet" href="{root}style.css">
 <script src="{root}search.js" defer></script>
-<header><nav>{crumbs}</nav><form role="search" hidden><input type="search" placeholder="Search names" aria-label="Search names"><ul></ul></form></header>
+<header><nav>{crumbs}</nav><form role="search" hidden><input type="search" placeholder="Search" aria-label="Search names and words"><ul></ul></form></header>
 <main>
 {body}
 </main>
@@ -120,11 +120,20 @@ def sentence(target):
         said = inner and first_sentence(inner.doc) or sentence(target.item)
         return said if inner or not said else f"of {target.item.name}: {said}"
     if isinstance(target, Definition):
-        text = target.text.split("\n", target.kind == "definition")[-1] if target.size <= SHORT else ""
-        said = " ".join(target.comment) or text or " ".join(it.strip().removeprefix("-- ") for it in target.home.comment)
+        said = " ".join(target.comment) or equations(target) or " ".join(it.strip().removeprefix("-- ") for it in target.home.comment)
         before = target.before() if GOES_ON.match(said) else None
         return f"{said} (before it, `{before.name}`: {sentence(before)})" if before else said
     return first_sentence(target.doc) if isinstance(target, Item) else ""
+
+
+def equations(target):
+    """The text of a definition if it is short, and of a single equation what is said of the first definition on its right."""
+    if target.size > SHORT:
+        return ""
+    lines = [" ".join(it.split()) for it in target.text.split("\n", target.kind == "definition")[-1].split("\n")]
+    right = target.text.rfind(" = ")
+    rests = [it.target for it in target.words if it.start > right and isinstance(it.target, Definition) and it.target.comment] if len(lines) == 1 else []
+    return "; ".join(filter(None, lines)) + "".join(f" (`{it.name}`: {' '.join(it.comment)})" for it in rests[:1])
 
 
 def sentences(text, words):

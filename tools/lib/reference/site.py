@@ -31,6 +31,7 @@ START = {
     "Walk on it": ["spade_dcel::handles::VertexHandle", "spade_dcel::handles::DirectedEdgeHandle", "spade_dcel::handles::FaceHandle"],
     "Triangulate points": ["dcel_delaunay::Triangulation", "dcel_delaunay::triangulate"],
     "Keep edges as constraints": ["dcel_constrained::ConstrainedTriangulation"],
+    "Refine triangles": ["dcel_refinement::refine"],
 }
 
 
