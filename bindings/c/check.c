@@ -731,7 +731,7 @@ static void check_no_constrained(void) {
     CHECK(dcel_constrained_add_constraint(&none, 0, 1, &answer) == DCEL_NO_MESH && answer);
     CHECK(dcel_constrained_add_constraints(&none, &segment, 1, &number) == DCEL_NO_MESH && number == 0);
     CHECK(dcel_constrained_remove_constraint(&none, 0, &answer) == DCEL_NO_MESH && answer);
-    CHECK(dcel_constrained_refine(&none, &ANYTHING, &number, &answer) == DCEL_NO_MESH && number == 0 && answer);
+    CHECK(dcel_constrained_refine(&none, &ANYTHING, &number, &number, &answer) == DCEL_NO_MESH && number == 0 && answer);
     CHECK(!dcel_constrained_is_constraint(&none, 0) && !dcel_constrained_exists_constraint(&none, 0, 1));
     CHECK(dcel_constrained_new(&other) == DCEL_DONE && dcel_constrained_is_whole(&other));
     CHECK(dcel_constrained_clone(&none, &other) == DCEL_NO_MESH && dcel_constrained_is_whole(&other));
@@ -902,9 +902,11 @@ static void check_constrained_places(void) {
 /* Refines it, and returns whether that is reached. */
 static bool refine(dcel_constrained *made, dcel_refinement wanted, uint64_t *added) {
     uint64_t before = dcel_constrained_num_vertices(made);
+    uint64_t excepted = 77;
     bool reached = true;
-    CHECK(dcel_constrained_refine(made, &wanted, added, &reached) == DCEL_DONE && dcel_constrained_is_whole(made));
+    CHECK(dcel_constrained_refine(made, &wanted, added, &excepted, &reached) == DCEL_DONE && dcel_constrained_is_whole(made));
     CHECK(dcel_constrained_num_vertices(made) == before + *added && *added <= wanted.max_additional_vertices);
+    CHECK(excepted == 0);
     return reached;
 }
 

@@ -949,17 +949,18 @@ typedef struct {
 } dcel_refinement;
 
 /* Adds vertices until each triangle is as asked, or as many are added as allowed, or none is found that would
-   help. `added` tells how many were added, and `reached` whether each triangle is as asked, exactly. Vertices
-   keep their numbers, and the new ones follow them; a constraint on which some are added becomes constraints
-   from one to the next, and no other edge is one. A constraint is split first that has a vertex of its triangle
-   inside the circle of which it is a diameter.
+   help. `added` is how many were added, `excepted` how many corners between two constraints are smaller than
+   asked, and `reached` whether each triangle is as asked, but for these corners, exactly. Vertices keep their
+   numbers, and the new ones follow them; a constraint on which some are added becomes constraints from one to
+   the next, and no other edge is one. A constraint is split first that has a vertex of its triangle inside the
+   circle of which it is a diameter.
    New vertices have whole coordinates, so a constraint can be split only at a point between its ends that
    has such: multiply all coordinates by a power of two first, as 4096. A side of the hull that is no
    constraint isn't split. Up to 20.7 degrees the angle is mostly reached, and above 34 rarely.
-   With any refusal `added` and `reached` stay, and the vertices added so far do, too.
+   With any refusal `added`, `excepted` and `reached` stay, and the vertices added so far do, too.
    Refusals: NO_ROOM, OUT_OF_MEMORY, UNFINISHED. */
 dcel_status dcel_constrained_refine(dcel_constrained *triangulation, const dcel_refinement *parameters,
-                                    uint64_t *added, bool *reached);
+                                    uint64_t *added, uint64_t *excepted, bool *reached);
 
 #ifdef __cplusplus
 }

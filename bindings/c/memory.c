@@ -417,14 +417,14 @@ static void sweep_refine(void) {
         dcel_constrained made = DCEL_CONSTRAINED_INIT;
         dcel_point points[104];
         uint32_t v[4];
-        uint64_t row, needed, added = 77;
+        uint64_t row, needed, added = 77, excepted = 77;
         bool reached = false;
         must(dcel_constrained_bulk_load(&made, corners, 4, SIDES, 4, v, 4, &row) == DCEL_DONE, "there was no memory");
         left = met;
-        dcel_status status = dcel_constrained_refine(&made, &wanted, &added, &reached);
+        dcel_status status = dcel_constrained_refine(&made, &wanted, &added, &excepted, &reached);
         left = -1;
         must(dcel_constrained_is_whole(&made) == (status != DCEL_UNFINISHED), "it is unfinished if that is said");
-        must(status == DCEL_DONE || (added == 77 && !reached), "refine tells nothing");
+        must(status == DCEL_DONE || (added == 77 && excepted == 77 && !reached), "refine tells nothing");
         check_unfinished_constrained(&made);
         must(dcel_constrained_finish(&made) == DCEL_DONE && dcel_constrained_is_whole(&made), "it can't be finished");
         must(dcel_constrained_points(&made, points, 104, &needed) == DCEL_DONE && needed >= 4, "points are kept");
@@ -433,7 +433,7 @@ static void sweep_refine(void) {
         must(dcel_constrained_num_constraints(&made) >= 4, "constraints are kept");
         dcel_constrained_free(&made);
         if (status == DCEL_DONE) {
-            must(reached && added == needed - 4 && added > 10, "it is refined");
+            must(reached && added == needed - 4 && added > 10 && excepted == 0, "it is refined");
             printf("refine: %ld requests\n", met);
             return;
         }

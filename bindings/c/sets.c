@@ -401,6 +401,19 @@ static bool is_refined(const told *it, const dcel_refinement *wanted) {
     return true;
 }
 
+/* How many corners that are to be refined have a smaller angle between two constraints. */
+static uint64_t exceptions_of(const told *it, const dcel_refinement *wanted) {
+    uint64_t count = 0;
+    for (size_t t = 0; t < it->faces; t++)
+        for (int k = 0; k < 3 && (it->depths[t] % 2 == 1 || !wanted->inside); k++) {
+            uint32_t u = corner(it->triangles[t], k), v = corner(it->triangles[t], (k + 1) % 3), w = corner(it->triangles[t], (k + 2) % 3);
+            dcel_point p = it->points[u], a = it->points[v], b = it->points[w];
+            int64_t dot = (a.x - p.x) * (b.x - p.x) + (a.y - p.y) * (b.y - p.y);
+            count += wanted->rise * dot > wanted->run * area(p, a, b) && is_marked(it, u, v) && is_marked(it, u, w);
+        }
+    return count;
+}
+
 /* Whether a point is on a segment. */
 static bool is_on(dcel_point from, dcel_point to, dcel_point p) { return are_equal(from, p) || are_equal(to, p) || is_between(from, to, p); }
 
@@ -413,7 +426,7 @@ static bool check_refined(const dcel_point *given, uint32_t count, const dcel_en
     dcel_refinement wanted = {some(2) ? 0 : UINT64_MAX, 500000 + some(1000000), 0, (uint16_t)some(40), 100, some(2) == 1};
     dcel_ends around[2 * MOST];
     uint32_t vertices[MOST];
-    uint64_t row, added = 77;
+    uint64_t row, added = 77, excepted = 77;
     bool reached;
     for (uint32_t i = 0; i < count; i++) {
         scaled[i].x = 64 * given[i].x;
@@ -428,7 +441,7 @@ static bool check_refined(const dcel_point *given, uint32_t count, const dcel_en
     done(dcel_constrained_add_constraints(&made, around, before.around, &row), "add the hull");
     tell_constrained(&made, &before);
     wanted.max_additional_vertices = MOST - before.vertices;
-    done(dcel_constrained_refine(&made, &wanted, &added, &reached), "refine");
+    done(dcel_constrained_refine(&made, &wanted, &added, &excepted, &reached), "refine");
     check_whole(&made, &it);
     must(added == it.vertices - before.vertices && added <= wanted.max_additional_vertices, "as many vertices as are told");
     must(memcmp(it.points, before.points, before.vertices * sizeof it.points[0]) == 0, "vertices stay");
@@ -443,6 +456,7 @@ static bool check_refined(const dcel_point *given, uint32_t count, const dcel_en
         must(is_part, "no other edge is a constraint");
     }
     must(reached == is_refined(&it, &wanted), "whether each triangle is as wanted");
+    must(excepted == exceptions_of(&it, &wanted), "as many exceptions as there are");
     dcel_constrained_free(&made);
     return reached && added > 0;
 }

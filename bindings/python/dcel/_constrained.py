@@ -128,8 +128,8 @@ class ConstrainedDelaunay(Triangulation):
         above `max_area`, in the unit of the coordinates squared; or until `max_additional_points` are added, or none is found that
         would help. They come behind the others in `points`, and on constraints, which become several.
 
-        Returns `Refined(added, done)`: how many were added, and whether each triangle is as asked, exactly. With `inside` only those that
-        `inside()` is true of are refined, else all.
+        Returns `Refined(added, done, excepted)`: how many were added, whether each triangle is as asked, exactly, and how many angles
+        between two constraints are smaller. With `inside` only triangles that `inside()` is true of are refined, else all.
 
         A constraint is split only at points of the grid that are on it, which whole numbers leave enough of; of other floats take
         `Grid.fit(points, free_bits=12).round(points)` first. Sides of the hull are split only if they are constraints. Up to 20.7 degrees
@@ -139,14 +139,14 @@ class ConstrainedDelaunay(Triangulation):
 
         >>> made = ConstrainedDelaunay([(0, 0), (9, 0), (9, 1), (0, 1)], [(0, 1), (1, 2), (2, 3), (3, 0)])
         >>> made.refine(min_angle=30).done, made.refine(min_angle=30)
-        (True, Refined(added=0, done=True))
+        (True, Refined(added=0, done=True, excepted=0))
         """
         wanted = parameters(min_angle, max_area, max_additional_points, inside, self._power)
-        added, done, flat, first = c_uint64(), c_bool(), array("d"), len(self._rows)
+        added, excepted, done, flat, first = c_uint64(), c_uint64(), c_bool(), array("d"), len(self._rows)
 
         def fill(spare: Any) -> array[int]:
             try:
-                self._calls.refine(self._copied(spare), wanted, added, done)
+                self._calls.refine(self._copied(spare), wanted, added, excepted, done)
             except Unfinished:  # the copy is given up
                 raise refused(_declared.Status.OUT_OF_MEMORY, self._calls.refine) from None
             flat.frombytes(coordinates(self._steps_of(spare)[2 * first :], self._power).tobytes())
@@ -154,7 +154,7 @@ class ConstrainedDelaunay(Triangulation):
 
         self._forget()
         self._replace(fill, flat, self._power, self.moved)
-        return Refined(added.value, done.value)
+        return Refined(added.value, done.value, excepted.value)
 
     def _steps_of(self, kept: Any) -> array[int]:
         """How many steps the coordinates of all vertices are."""

@@ -443,5 +443,5 @@ FUNCTIONS: dict[str, tuple[Any, tuple[Any, ...]]] = {
     "dcel_constrained_directed_edges": (Status, (_constrained, _half_edge, c_size_t, _uint64)),
     "dcel_constrained_constraints": (Status, (_constrained, _ends, c_size_t, _uint64)),
     "dcel_constrained_regions": (Status, (_constrained, _uint32, c_size_t, _uint64)),
-    "dcel_constrained_refine": (Status, (_constrained, _refinement, _uint64, _bool)),
+    "dcel_constrained_refine": (Status, (_constrained, _refinement, _uint64, _uint64, _bool)),
 }

@@ -20,6 +20,7 @@ class Refined(NamedTuple):
 
     added: int  #: how many points it added
     done: bool  #: whether each triangle is as asked
+    excepted: int  #: how many angles between two constraints are smaller than asked
 
 
 def parameters(min_angle: Any, max_area: Any, max_additional_points: Any, inside: bool, power: int) -> Refinement:

@@ -54,6 +54,20 @@ def outline(rng: random.Random) -> tuple[list[tuple[float, float]], Pairs]:
     return points, segments
 
 
+def exceptions_of(made: ConstrainedDelaunay, points: list[Point], limit: tuple[int, int], inside: bool) -> int:
+    """How many corners between two constraints have a tangent below rise / run: in whole numbers."""
+    rise, run = limit
+    marked = {frozenset(pair) for pair in made.constraints.tolist()}
+    count = 0
+    for corners, depth in zip(made.simplices.tolist(), made.regions.tolist(), strict=True):
+        for place in range(3 if depth % 2 == 1 or not inside else 0):
+            u, v, w = (corners[(place + it) % 3] for it in range(3))
+            (px, py), (ax, ay), (bx, by) = points[u], points[v], points[w]
+            dot = (ax - px) * (bx - px) + (ay - py) * (by - py)
+            count += rise * dot > run * plane.turn(points[u], points[v], points[w]) and {frozenset((u, v)), frozenset((u, w))} <= marked
+    return count
+
+
 def are_corners_good(made: ConstrainedDelaunay, points: list[Point], limit: tuple[int, int], area: int, inside: bool) -> bool:
     """Whether each corner has a tangent of at least rise / run, or both its sides are constraints, and each triangle at most twice the
     area: in whole numbers."""
@@ -82,9 +96,10 @@ class Outlines(unittest.TestCase):
         names = ("simplices", "neighbors", "edges", "hull", "constraints", "regions")
         marked = laid.marked_by(every, segments, [True] * len(segments))
         laid.judge(dict(enumerate(every)), marked, laid.Lists(*(getattr(made, name).tolist() for name in names)))
+        self.assertEqual(came.excepted, exceptions_of(made, every, tangent_of(angle), inside))
         self.assertEqual(came.done, are_corners_good(made, every, tangent_of(angle), math.floor(2 * Fraction(area)), inside))
         self.assertEqual(made.insert([points[0], every[-1]]).tolist(), [len(every), len(every) + 1])
-        self.assertEqual(made.copy().refine(angle, area, 0, inside=inside), Refined(0, came.done))
+        self.assertEqual(made.copy().refine(angle, area, 0, inside=inside), Refined(0, came.done, came.excepted))
         return came.done
 
     def test_random(self) -> None:
@@ -167,9 +182,9 @@ class Given(unittest.TestCase):
     def test_right(self) -> None:
         """The least and the greatest of each parameter, and numbers of any kind."""
         for given in ({"min_angle": 0}, {"min_angle": Fraction(1, 3)}, {"max_area": math.inf}, {"max_area": None}, {"max_area": 10**400}, {"max_area": 2048.0}):
-            self.assertEqual(ConstrainedDelaunay(SQUARE, BORDER).refine(**given), Refined(0, True))
+            self.assertEqual(ConstrainedDelaunay(SQUARE, BORDER).refine(**given), Refined(0, True, 0))
         for given in ({"max_area": 1e-300}, {"max_area": Fraction(1, 10**400)}, {"min_angle": 60}):
-            self.assertEqual(ConstrainedDelaunay(SQUARE, BORDER).refine(**given, max_additional_points=0), Refined(0, False))
+            self.assertEqual(ConstrainedDelaunay(SQUARE, BORDER).refine(**given, max_additional_points=0), Refined(0, False, 0))
             self.assertFalse(ConstrainedDelaunay(SQUARE, BORDER).refine(**given, max_additional_points=9).done)
         self.assertTrue(ConstrainedDelaunay(SQUARE, BORDER).refine(max_area=2047.9, max_additional_points=10**40).done)
 
@@ -190,9 +205,9 @@ class Given(unittest.TestCase):
     def test_nothing(self) -> None:
         """Nothing is to be refined without triangles inside."""
         for points in ([], [(1, 2)], [(0, 0), (3, 3), (9, 9)], SQUARE):
-            self.assertEqual(ConstrainedDelaunay(points).refine(50, 1e-9), Refined(0, True))
+            self.assertEqual(ConstrainedDelaunay(points).refine(50, 1e-9), Refined(0, True, 0))
         made = ConstrainedDelaunay(SQUARE)
-        self.assertEqual(made.refine(0, 2048, inside=False), Refined(0, True))
+        self.assertEqual(made.refine(0, 2048, inside=False), Refined(0, True, 0))
         self.assertFalse(made.refine(0, 1, 50, inside=False).done)
 
     def test_free_bits(self) -> None:
@@ -222,7 +237,7 @@ class Ended(unittest.TestCase):
             ended = not interrupted(lambda: made.refine(20, 600), lines)  # noqa: B023
             added = made.npoints - 4
             found.add(added)
-            self.assertEqual(made.refine(20, 600), Refined(0, True) if added else Refined(max(found | {made.npoints - 4}), True))
+            self.assertEqual(made.refine(20, 600), Refined(0, True, 0) if added else Refined(max(found | {made.npoints - 4}), True, 0))
             self.assertEqual(made.insert([(1, 4), (1, 5)]).tolist(), [made.npoints - 2, made.npoints - 1])
             if ended:
                 break

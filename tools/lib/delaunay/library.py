@@ -85,12 +85,13 @@ class Kept:
         return None if moved.value == NONE else moved.value
 
     def refine(self, asked):
-        """Refines it to what is asked, as of `refined.Asked`. Returns how many points it says that it added, and whether all is as asked."""
+        """Refines it to what is asked, as of `refined.Asked`. Returns how many points it says that it added, how many
+        corners it says are excepted, and whether all is as asked."""
         high, low = divmod(ANY_AREA if asked.doubled_area is None else asked.doubled_area, 2**64)
         given = declared().Refinement(high, low, asked.most, asked.rise, asked.run, asked.is_inside)
-        added, reached = c_uint64(), c_bool()
-        call("refine", self.kept, given, added, reached)
-        return added.value, reached.value
+        added, excepted, reached = c_uint64(), c_uint64(), c_bool()
+        call("refine", self.kept, given, added, excepted, reached)
+        return added.value, excepted.value, reached.value
 
     def rows(self, name, kind, most, code="I"):
         """The numbers of each item of a list, which has at most so many."""

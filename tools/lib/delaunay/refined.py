@@ -22,11 +22,13 @@ class Asked(NamedTuple):
 
 
 class Came(NamedTuple):
-    """What a refinement came to: all points by their rows, the lists, how many points it says that it added, and whether all is as asked."""
+    """What a refinement came to: all points by their rows, the lists, how many points it says that it added, how many corners between two
+    constraints it says are smaller than asked, and whether all is as asked."""
 
     points: list
     lists: Lists
     added: int
+    excepted: int
     done: bool
 
 
@@ -52,10 +54,21 @@ def fault_of(asked, corners, marked):
     return ""
 
 
+def counting(asked, came):
+    """The corners of each triangle that counts, by the depths that the lists have."""
+    rows = [row for row, depth in zip(came.lists.triangles, came.lists.regions) if depth % 2 or not asked.is_inside]
+    return [[came.points[number] for number in row] for row in rows]
+
+
 def faults_of(asked, came, marked):
-    """What is wrong with each triangle that counts, by the depths that the lists have."""
-    counting = [row for row, depth in zip(came.lists.triangles, came.lists.regions) if depth % 2 or not asked.is_inside]
-    return [it for it in (fault_of(asked, [came.points[number] for number in row], marked) for row in counting) if it]
+    """What is wrong with each triangle that counts."""
+    return [it for it in (fault_of(asked, corners, marked) for corners in counting(asked, came)) if it]
+
+
+def exceptions_of(asked, came, marked):
+    """How many corners that count are smaller than asked, between two constraints."""
+    corners = [corner for row in counting(asked, came) for corner in rounds(row)]
+    return sum(not is_wide(asked, p, a, b) and {frozenset((p, a)), frozenset((p, b))} <= marked for p, a, b in corners)
 
 
 def judge(points, segments, asked, came):
@@ -81,6 +94,8 @@ def judge(points, segments, asked, came):
         raise Wrong(faults[0])
     if not came.done and not faults:
         raise Wrong("all is as asked, and that isn't told")
+    if (excepted := exceptions_of(asked, came, marked)) != came.excepted:
+        raise Wrong(f"{excepted} corners are excepted, and {came.excepted} are told")
 
 
 # What is asked of a domain.
@@ -123,6 +138,7 @@ def split_rows(count, came):
 def other_counts(asked, came):
     """Other numbers of points than were added, or allowed."""
     yield "a point more is told", "are told", asked, came._replace(added=came.added + 1)
+    yield "an exception more is told", "corners are excepted", asked, came._replace(excepted=came.excepted + 1)
     if came.added:
         yield "a point too many", "more points are added than allowed", asked._replace(most=came.added - 1), came
         doubled = came._replace(points=[*came.points, came.points[-1]], added=came.added + 1)
@@ -178,7 +194,7 @@ def others(points, asked, came):
 
 
 NAMES = [
-    "an old point moved", "old points exchanged", "a point more is told", "a point too many", "a new point where one was", "a half isn't marked",
+    "an old point moved", "old points exchanged", "a point more is told", "an exception more is told", "a point too many", "a new point where one was", "a half isn't marked",
     "another edge is marked", "a constraint is split off its line", "a triangle missing", "an edge that isn't Delaunay", "another depth",
     "told as done", "told as not done", "a bad triangle left", "a small angle at one constraint", "a triangle too large by one",
 ]

@@ -33,12 +33,12 @@ def refine(domain, asked):
     with Kept(domain.points, domain.segments) as kept:
         points = Expected(domain.points, kept.vertices, ()).points
         segments = [(kept.vertices[a], kept.vertices[b]) for a, b in domain.segments]
-        added, done = kept.refine(asked)
+        added, excepted, done = kept.refine(asked)
         told = kept.told()
         check_links(told.lists, told.links)
-        if (again := kept.refine(asked._replace(most=0))) != (0, done):
+        if (again := kept.refine(asked._replace(most=0))) != (0, excepted, done):
             raise Wrong(f"asked again for no more points it says {again}")
-    return points, segments, Came(told.points, told.lists, added, done)
+    return points, segments, Came(told.points, told.lists, added, excepted, done)
 
 
 def check_one(domain, asked):

@@ -211,6 +211,9 @@ pub struct RefinementResult {
 
     /// Whether each triangle that was to be refined is as asked, exactly.
     pub refinement_complete: bool,
+
+    /// How many corners between two constraints are smaller than asked. Spade doesn't report it.
+    pub excepted_corners: usize,
 }
 
 impl<V: HasPosition + From<Point2>> ConstrainedDelaunayTriangulation<V> {
@@ -233,7 +236,8 @@ impl<V: HasPosition + From<Point2>> ConstrainedDelaunayTriangulation<V> {
     /// let edges = vec![[0, 1], [1, 2], [2, 3], [3, 0]];
     /// let mut triangulation = ConstrainedDelaunayTriangulation::bulk_load_cdt(points, edges)?;
     /// let result = triangulation.refine(RefinementParameters::new())?;
-    /// assert!(result.refinement_complete && triangulation.num_vertices() > 10);
+    /// assert!(result.refinement_complete && result.excepted_corners == 0);
+    /// assert!(triangulation.num_vertices() > 10);
     /// # Ok::<(), Box<dyn std::error::Error>>(())
     /// ```
     pub fn refine(
@@ -242,7 +246,7 @@ impl<V: HasPosition + From<Point2>> ConstrainedDelaunayTriangulation<V> {
     ) -> Result<RefinementResult, Refusal> {
         let before = self.kept.num_vertices();
         let mut kept = self.kept.try_clone()?;
-        let refinement_complete = kept.refine(parameters.wanted(before))?;
+        let (refinement_complete, excepted) = kept.refine(parameters.wanted(before))?;
         let mut excluded_faces = Vec::new();
         if parameters.exclude_outer_faces {
             excluded_faces = outside(&kept)?;
@@ -261,6 +265,7 @@ impl<V: HasPosition + From<Point2>> ConstrainedDelaunayTriangulation<V> {
         Ok(RefinementResult {
             excluded_faces,
             refinement_complete,
+            excepted_corners: excepted as usize,
         })
     }
 }

@@ -686,6 +686,7 @@ unsafe extern "C" {
         triangulation: &mut RawConstrained,
         parameters: &mut Refinement,
         added: &mut u64,
+        excepted: &mut u64,
         reached: &mut bool,
     ) -> u32;
 }

@@ -298,14 +298,15 @@ impl Constrained {
         Refusal::of(status)
     }
 
-    /// Adds vertices, and returns whether each triangle is as asked then. The error says that memory
-    /// or numbers ran out; then some vertices are added.
-    pub(crate) fn refine(&mut self, mut wanted: Refinement) -> Result<bool, Refusal> {
-        let (mut added, mut reached) = (0, false);
+    /// Adds vertices, and returns whether each triangle is as asked then, and how many corners between
+    /// two constraints are smaller. The error says that memory or numbers ran out; then some vertices
+    /// are added.
+    pub(crate) fn refine(&mut self, mut wanted: Refinement) -> Result<(bool, u64), Refusal> {
+        let (mut added, mut excepted, mut reached) = (0, 0, false);
         let it = self.0.get_mut();
-        match dcel_constrained_refine(it, &mut wanted, &mut added, &mut reached) {
+        match dcel_constrained_refine(it, &mut wanted, &mut added, &mut excepted, &mut reached) {
             status::UNFINISHED => Err(Refusal::OutOfMemory),
-            status => Refusal::of(status).map(|()| reached),
+            status => Refusal::of(status).map(|()| (reached, excepted)),
         }
     }
 

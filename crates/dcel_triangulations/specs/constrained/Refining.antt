@@ -3,7 +3,7 @@ use Rattle.dcel_constrained.specs.Constrained.{marked_mesh}
 use Rattle.dcel_constrained.specs.Splitting.{SplitsMarked}
 use Rattle.dcel_delaunay.specs.Bulk.{FailsToInsertAll}
 use Rattle.dcel_planar.specs.declared.errors.InsertionError.{InsertionError}
-use Rattle.dcel_refinement.specs.Quality.{IsGood}
+use Rattle.dcel_refinement.specs.Quality.{HasExceptions, IsGood}
 use Rattle.dcel_refinement.specs.Refined.{AddsAtMost}
 use Rattle.dcel_refinement.specs.declared.parameters.RefinedFaces.{RefinedFaces}
 use Rattle.dcel_refinement.specs.declared.parameters.RefinedFaces.TheVariants.{All, Inside}
@@ -31,13 +31,14 @@ parameters_given given = record {
   faces = faces_given given.inside;
 }
 
--- vertices are added, no more than allowed, and constraints stay, in parts; what is told is how many were added, and whether each corner is as
--- wanted
-pub record RefinesTriangulation (given : DcelRefinement) (added : ℕ) (reached : Bool) (old new : State) : Type 0 where
+-- vertices are added, no more than allowed, and constraints stay, in parts; the result is how many were added, how many exceptions there are, and
+-- whether each corner is as wanted
+pub record RefinesTriangulation (given : DcelRefinement) (added excepted : ℕ) (reached : Bool) (old new : State) : Type 0 where
   pub adds : AddsAtMost (marked_mesh old) (marked_mesh new) given.max_additional_vertices
   pub splits : SplitsMarked (marked_mesh old) (marked_mesh new)
   pub whole : IsWhole new
   pub counted : added ≡ (marked_mesh new).shape.vertices - (marked_mesh old).shape.vertices
+  pub excepts : HasExceptions (marked_mesh new) (parameters_given given) excepted
   pub told : IsTrue reached ↔ IsGood (marked_mesh new) (parameters_given given)
 
 -- memory or numbers ran out, and vertices added before that stay

@@ -29,37 +29,47 @@ pub struct DcelRefinement {
 }
 
 /// Adds vertices until each triangle that is to be refined has the wanted angles and area, or until
-/// as many were added as allowed, and tells how many were added, and whether it got there.
+/// as many were added as allowed. Writes how many were added, how many exceptions there are (corners
+/// between two constraints that are smaller than asked), and whether it got there.
 ///
 /// Vertices keep their numbers. A constraint on which vertices are added becomes constraints from one
 /// to the next, and no other edge is one.
 ///
-/// If memory or numbers run out, the vertices added so far stay, and nothing is told.
+/// If memory or numbers run out, the vertices added so far stay, and nothing is written.
 pub fn refine(
     alloc: Global,
     triangulation: &mut DcelConstrained,
     parameters: &DcelRefinement,
     added: &mut u64,
+    excepted: &mut u64,
     reached: &mut bool,
 ) -> u32
-    ensures done { result ≡ 0 → AreSo (RefinesTriangulation parameters.now added.new reached.new) (kept_in triangulation.old) (kept_in triangulation.new) }
+    ensures done { result ≡ 0 → AreSo (RefinesTriangulation parameters.now added.new excepted.new reached.new) (kept_in triangulation.old) (kept_in triangulation.new) }
     ensures fails { result ≢ 0 → result ≢ 21 → AreSo (FailsToRefine parameters.now result) (kept_in triangulation.old) (kept_in triangulation.new) }
     ensures none { (result ≡ 21) ↔ (kept_in triangulation.old ≡ None) }
     ensures nothing { result ≡ 21 → kept_in triangulation.new ≡ None }
-    ensures untold { result ≢ 0 → (added.new ≡ added.old) × (reached.new ≡ reached.old) }
+    ensures untold { result ≢ 0 → (added.new ≡ added.old) × (excepted.new ≡ excepted.old) × (reached.new ≡ reached.old) }
 {
     if !triangulation.is_open {
         return NO_MESH;
     }
     let wanted = parameters_of(*parameters);
     match dcel_refinement::refine(triangulation.held.as_mut(), alloc, &wanted) {
-        Ok(Refined::Done { added: count, .. }) => {
-            *added = count as u64;
+        Ok(Refined::Done {
+            added: vertices,
+            excepted: corners,
+        }) => {
+            *added = vertices as u64;
+            *excepted = corners as u64;
             *reached = true;
             DONE
         }
-        Ok(Refined::Stopped { added: count, .. }) => {
-            *added = count as u64;
+        Ok(Refined::Stopped {
+            added: vertices,
+            excepted: corners,
+        }) => {
+            *added = vertices as u64;
+            *excepted = corners as u64;
             *reached = false;
             DONE
         }

@@ -11,11 +11,12 @@ returns-in-Ok-Stopped-clause-done c =
     let known = c.in-Ok-Stopped.ensures in
     let reports = rw (c.in-Ok-Stopped.field-0-is, wanted) at known.reports in
     λ _.
-    subst (λ (kept : Kept). AreSo (RefinesTriangulation given c.in-Ok-Stopped.count false) kept (Some c.refine.new.triangulation)) c.as_mut.ensures.value
+    subst (λ (kept : Kept). AreSo (RefinesTriangulation given c.in-Ok-Stopped.vertices c.in-Ok-Stopped.corners false) kept (Some c.refine.new.triangulation)) c.as_mut.ensures.value
     (record {
       adds = rw wanted at known.adds;
       splits = known.splits;
       whole = known.whole;
       counted = reports.1;
+      excepts = reports.2;
       told = (λ is. absurd (true≢false (sym is)), λ good. absurd (reports.0 good));
     })
