@@ -39,6 +39,17 @@ moved_hit last gone edge is = sym (moved-last last gone) ∙ ap (moved last gone
 pub moved_off : (last gone edge : ℕ) → edge ≢ last → edge ≡ moved last gone edge
 moved_off last gone edge other = sym (moved-other last gone edge other)
 
+-- what is below all that may move stays
+low_stays : (n : ℕ) (taken : List ℕ) (edge : ℕ) → edge + length taken < n → new_number n taken edge ≡ edge
+unfolding new_number
+low_stays n [] edge below = refl
+low_stays n (x ∷ rest) edge below =
+    ap (new_number (n - 1) rest) (moved-other (n - 1) x edge (λ is. omega (arith, is, below))) ∙ low_stays (n - 1) rest edge (omega (arith, below))
+
+pub low_edge : (count edge : ℕ) (taken : List ℕ) → edge < count - length taken → edge ≡ new_number count (reverse taken) edge
+low_edge count edge taken below =
+    sym (low_stays count (reverse taken) edge (let long = length-reverse taken in omega (arith, long, below)))
+
 -- the first i items under new names
 pub partly : (ℕ → ℕ) → ℕ → List ℕ → List ℕ
 partly f zero xs = xs
