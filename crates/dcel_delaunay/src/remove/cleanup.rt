@@ -1,11 +1,11 @@
 //! What a removal gave up taken out, with the vertex, and the edges that are listed by their new
 //! numbers.
 
-ghost use Rattle.std.specs.Prelude.{◌≡◌, ◌-◌, ◌<◌, ◌≤◌, ◌==◌, IsTrue, None, Some, cond, length, map, reverse, slice_index_or, slice_set, true, false, vec_len, ℕ};
+ghost use Rattle.std.specs.Prelude.{◌≡◌, ◌-◌, ◌<◌, ◌≤◌, ◌==◌, ◌↔◌, ◌+◌, IsTrue, None, Some, cond, length, map, reverse, slice_index_or, slice_set, true, false, vec_len, ℕ};
 ghost use Rattle.std.specs.List.{list_any};
 ghost use Rattle.dcel_maps.specs.Removals.{Cleaned, IsListed};
 ghost use Rattle.dcel_maps.specs.Renumbered.{new_edge};
-ghost use Rattle.dcel_maps.specs.Renumbering.{cleaned, cleaned_up, moved, new_number, vertex_taken_out};
+ghost use Rattle.dcel_maps.specs.Renumbering.{cleaned, cleaned_up, new_number, vertex_taken_out};
 ghost use Rattle.dcel_maps.specs.Shapes.{IsMesh, edge_is_live};
 ghost use Rattle.dcel_maps.specs.Words.{count_of};
 ghost use Rattle.dcel_delaunay.specs.Needless.{IsRepeated};
@@ -143,7 +143,7 @@ fn put<L: Allocator>(due: &mut Due<L>, at: usize, edge: FixedUndirectedEdgeHandl
 }
 
 /// Returns the number that an edge has then: each time the last edge gets the number of the one that
-/// goes. Below all of these, edges keep theirs.
+/// goes.
 fn number_after(
     edge: FixedUndirectedEdgeHandle,
     taken_out: &[FixedUndirectedEdgeHandle],
@@ -152,30 +152,32 @@ fn number_after(
     requires { length taken_out.now ≤ count }
     ensures { result ≡ new_number count (reverse taken_out.now) edge }
 {
-    if edge.index() < count - taken_out.len() {
-        return edge;
-    }
     let mut number = edge;
     let mut last = count;
     let mut left = taken_out;
-    while let Some((&gone, others)) = left.split_last() {
-        last -= 1;
-        number = number_without(number, last, gone);
+    while is_moved(number, last, left.len()) {
+        // It keeps its number until it is the last one, and then gets that of the edge that goes.
+        let place = number.index();
+        let stays = last - 1 - place;
+        let (before, _) = left.split_at(left.len() - stays);
+        let Some((&gone, others)) = before.split_last() else {
+            unreachable!()
+        };
+        number = gone;
+        last = place;
         left = others;
     }
     number
 }
 
-/// Returns the number that an edge has once one edge is gone, whose number the last one gets.
-fn number_without(
-    edge: FixedUndirectedEdgeHandle,
-    last: usize,
-    gone: FixedUndirectedEdgeHandle,
-) -> FixedUndirectedEdgeHandle
-    ensures { result ≡ moved last gone edge }
+/// Returns whether an edge gets another number if so many edges go, each time the one after the last
+/// that stays.
+fn is_moved(edge: FixedUndirectedEdgeHandle, last: usize, going: usize) -> bool
+    ensures { IsTrue result ↔ ((edge < last) × (last ≤ edge + going)) }
 {
-    if edge.index() == last {
-        return gone;
+    let number = edge.index();
+    if number >= last {
+        return false;
     }
-    edge
+    last - number <= going
 }
