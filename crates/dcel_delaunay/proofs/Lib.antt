@@ -1,14 +1,15 @@
+pub mod Around
 pub mod Bordered
 pub mod Copied
 pub mod CutOff
 pub mod Distances
 pub mod Emptied
+pub mod Fewer
 pub mod Gathered
 pub mod Items
 pub mod LineRemoved
 pub mod Listed
 pub mod Lost
-pub mod Needless
 pub mod Orders
 pub mod Outline
 pub mod Renaming

@@ -1,5 +1,6 @@
 -- Listed edges under the numbers that they have once others are taken out.
-use Rattle.std.proofs.Common.{◌≡◌, ◌≢◌, ℕ, zero, suc, ◌+◌, ◌-◌, ◌<◌, ◌≤◌, List, [], ◌∷◌, ◌++◌, length, map, reverse, slice_index_or, slice_set, refl, sym, ap, ◌∙◌, arith}
+use Rattle.std.proofs.Common.{◌≡◌, ◌≢◌, inl, inr, ℕ, zero, suc, ◌+◌, ◌-◌, ◌<◌, ◌≤◌, List, [], ◌∷◌, ◌++◌, length, map, reverse, slice_index_or, slice_set, refl, sym, ap, ◌∙◌, arith}
+use Rattle.std.proofs.lemmas.Bool.{cases_lt}
 use Rattle.std.proofs.lemmas.List.{length-append, length-reverse, reverse-append}
 use Rattle.dcel_maps.specs.Removals.{IsListed, ascending}
 use Rattle.dcel_maps.specs.Renumbered.{new_edge}
@@ -18,26 +19,71 @@ one_out : (last gone number : ℕ) (rest : List ℕ) → new_number last (gone �
 unfolding new_number
 one_out last gone number rest = refl
 
-pub renames_on : (last gone number count edge : ℕ) (left others taken : List ℕ) → left ≡ others ++ gone ∷ [] → Renames last left number count taken edge
-    → Renames (last - 1) others (moved (last - 1) gone number) count taken edge
-renames_on last gone number count edge left others taken is renames = record {
-  same =
-      sym (one_out last gone number (reverse others)) ∙ ap (λ (l : List ℕ). new_number last l number) (sym (ap reverse is ∙ reverse-append others (gone ∷ [])))
-      ∙ renames.same;
-  few = (let long = ap length is in let parts = length-append others (gone ∷ []) in let fits = renames.few in omega (arith, long, parts, fits));
-}
-
-pub renames_end : (last number count edge : ℕ) (left taken : List ℕ) → length left ≡ 0 → Renames last left number count taken edge → number ≡ new_number count (reverse taken) edge
-unfolding new_number
-renames_end last number count edge [] taken none renames = renames.same
-renames_end last number count edge (x ∷ left) taken none renames = absurd (omega (arith, none))
-
--- the number of the last one, and of another one
+-- the number of the last one
 pub moved_hit : (last gone edge : ℕ) → edge ≡ last → gone ≡ moved last gone edge
 moved_hit last gone edge is = sym (moved-last last gone) ∙ ap (moved last gone) (sym is)
 
-pub moved_off : (last gone edge : ℕ) → edge ≢ last → edge ≡ moved last gone edge
-moved_off last gone edge other = sym (moved-other last gone edge other)
+-- what is below all that may move stays
+low_stays : (n : ℕ) (taken : List ℕ) (edge : ℕ) → edge + length taken < n → new_number n taken edge ≡ edge
+unfolding new_number
+low_stays n [] edge below = refl
+low_stays n (x ∷ rest) edge below =
+    ap (new_number (n - 1) rest) (moved-other (n - 1) x edge (λ is. omega (arith, is, below))) ∙ low_stays (n - 1) rest edge (omega (arith, below))
+
+-- and so does what is past the last one
+high_stays : (n : ℕ) (taken : List ℕ) (edge : ℕ) → length taken ≤ n → n ≤ edge → new_number n taken edge ≡ edge
+unfolding new_number
+high_stays n [] edge few past = refl
+high_stays n (x ∷ rest) edge few past =
+    ap (new_number (n - 1) rest) (moved-other (n - 1) x edge (λ is. omega (arith, is, few, past))) ∙ high_stays (n - 1) rest edge (omega (arith, few)) (omega (arith, past))
+
+-- until it is the last one, it stays
+skip_over : (n : ℕ) (first rest : List ℕ) (edge : ℕ) → edge + length first < n → new_number n (first ++ rest) edge ≡ new_number (n - length first) rest edge
+unfolding new_number
+skip_over n [] rest edge below = ap (λ (k : ℕ). new_number k rest edge) (omega arith)
+skip_over n (x ∷ first) rest edge below =
+    ap (new_number (n - 1) (first ++ rest)) (moved-other (n - 1) x edge (λ is. omega (arith, is, below)))
+    ∙ skip_over (n - 1) first rest edge (omega (arith, below)) ∙ ap (λ (k : ℕ). new_number k rest edge) (omega arith)
+
+pub renames_far : (last gone number count edge : ℕ) (left before after others taken : List ℕ) → left ≡ before ++ after → length after + number + 1 ≡ last → before ≡ others ++ gone ∷ []
+    → Renames last left number count taken edge → Renames number others gone count taken edge
+renames_far last gone number count edge left before after others taken parts far is renames =
+    let long = length-reverse after in
+    let turned : reverse left ≡ reverse after ++ gone ∷ reverse others =
+    ap reverse parts ∙ reverse-append before after ∙ ap (λ (l : List ℕ). reverse after ++ l) (ap reverse is ∙ reverse-append others (gone ∷ [])) in
+    let here : last - length (reverse after) ≡ number + 1 = omega (arith, long, far) in
+    let back : number + 1 - 1 ≡ number = omega arith in
+    record {
+      same =
+          ap (new_number number (reverse others)) (moved_hit number gone number refl)
+          ∙ ap (λ (k : ℕ). new_number k (reverse others) (moved k gone number)) (sym back)
+          ∙ sym (one_out (number + 1) gone number (reverse others))
+          ∙ ap (λ (k : ℕ). new_number k (gone ∷ reverse others) number) (sym here)
+          ∙ sym (skip_over last (reverse after) (gone ∷ reverse others) number (omega (arith, long, far)))
+          ∙ ap (λ (l : List ℕ). new_number last l number) (sym turned) ∙ renames.same;
+      few =
+          (let whole = ap length parts in
+          let both = length-append before after in
+          let own = ap length is in
+          let two = length-append others (gone ∷ []) in
+          let fits = renames.few in
+          omega (arith, whole, both, own, two, fits, far));
+    }
+
+pub renames_still : (last number count edge : ℕ) (left taken : List ℕ) → ¬ ((number < last) × (last ≤ number + length left)) → Renames last left number count taken edge
+    → number ≡ new_number count (reverse taken) edge
+renames_still last number count edge left taken not renames =
+    let long = length-reverse left in
+    let fits = renames.few in
+    let stays : new_number last (reverse left) number ≡ number =
+    elim (cases_lt number last) [
+      | inl below ↦ elim (cases_lt (number + length left) last) [
+        | inl far ↦ low_stays last (reverse left) number (omega (arith, long, far))
+        | inr near ↦ absurd (not (below, near))
+      ]
+      | inr past ↦ high_stays last (reverse left) number (omega (arith, long, fits)) past
+    ] in
+    sym stays ∙ renames.same
 
 -- the first i items under new names
 pub partly : (ℕ → ℕ) → ℕ → List ℕ → List ℕ

@@ -1,15 +1,19 @@
 -- An edge of a vertex flipped between two triangles that turn left: what it keeps, and that the vertex has one edge less.
-use Rattle.std.proofs.Common.{◌≡◌, inl, inr, ℕ, ◌+◌, ◌*◌, ◌/◌, ◌<◌, Bool, IsTrue, ◌↔◌, List, [], ◌∷◌, ◌++◌, length, slice_set, refl, sym, ap, ◌∙◌, subst, arith}
+use Rattle.std.proofs.Common.{◌≡◌, ◌⊎◌, inl, inr, ℕ, ◌+◌, ◌*◌, ◌/◌, ◌<◌, Bool, IsTrue, ◌↔◌, List, [], ◌∷◌, ◌++◌, length, slice_set, refl, sym, ap, ◌∙◌, subst, arith}
+use Rattle.std.proofs.lemmas.Bool.{cases_eq, cases_lt}
 use Rattle.std.proofs.lemmas.List.{length-set}
 use Rattle.dcel_fixed.proofs.Halves.{rev-double}
 use Rattle.dcel_maps.specs.Conditions.{CanFlip}
 use Rattle.dcel_maps.specs.edits.Flip.{edge_flipped}
-use Rattle.dcel_maps.specs.Shapes.{IsMesh, Mesh, Shape, face_count, face_of, origin_of, prev_of}
+use Rattle.dcel_maps.specs.Shapes.{IsLive, IsMesh, Mesh, Shape, face_count, face_of, origin_of, prev_of}
 use Rattle.dcel_maps.specs.Sides.{IsOnHull}
 use Rattle.dcel_maps.specs.Walking.{IsOutEdge, ListsOnce, out_edges_of}
-use Rattle.dcel_maps.proofs.edits.Flips.{flipped_mesh}
+use Rattle.dcel_maps.specs.Words.{count_of}
+use Rattle.dcel_maps.proofs.edits.Around.{at_edge}
+use Rattle.dcel_maps.proofs.edits.Flips.{at_flip, flipped_mesh}
 use Rattle.dcel_maps.proofs.Triangulations.{flipped}
 use Rattle.dcel_maps.proofs.walks.Turning.{mesh-out_edges}
+use Rattle.dcel_maps.proofs.words.Counts.{count-append, first_or_later}
 use Rattle.dcel_predicates.specs.declared.point.Point.{Point}
 use Rattle.dcel_legalize.specs.Flipping.{sides_beside}
 use Rattle.dcel_planar.proofs.Circled.{inner_from}
@@ -22,7 +26,9 @@ use Rattle.dcel_plane.proofs.removal.Turnable.{turn_keeps_plane}
 use Rattle.dcel_planar.specs.Corners.{StartsOutside}
 use Rattle.dcel_planar.specs.Growing.{HasHull, IsTriangleMesh, Keeps}
 use Rattle.dcel_delaunay.specs.Removing.{IsInnerVertex, IsTurnable}
-use Rattle.dcel_delaunay.specs.Staying.{HasConstraintAt, KeepsStaying, LeavesLegal}
+use Rattle.dcel_delaunay.specs.Staying.{HasConstraintAt, LeavesLegal}
+use Rattle.dcel_delaunay.specs.Thinning.{IsThinned, ListsAround}
+use Rattle.dcel_delaunay.proofs.Around.{far_listed, near_listed, still_around}
 use Rattle.dcel_planar.proofs.Counting.{flipped_joined}
 use Rattle.dcel_planar.proofs.Growth.{flipped-keeps, keeps-trans}
 use Rattle.dcel_delaunay.proofs.Staying.{flip_listed, flip_loose, flip_staying, keeps_trans, legal_trans}
@@ -54,21 +60,70 @@ pub left_as : (b : Bool) {p q r p' q' r' : Point} → p ≡ p' → q ≡ q' → 
 left_as b {p} {q} {r} {p'} {q'} {r'} ep eq er told =
     subst (λ (k : Point). IsTrue b ↔ TurnsLeft p' q' k) er (subst (λ (k : Point). IsTrue b ↔ TurnsLeft p' k r) eq (subst (λ (k : Point). IsTrue b ↔ TurnsLeft k q r) ep told))
 
+-- items that another list has
+abbrev AreAmong : List ℕ → List ℕ → Type 0
+AreAmong list some = (k : ℕ) → 0 < count_of k some → 0 < count_of k list
+
+one_among : (list : List ℕ) (x : ℕ) (rest : List ℕ) → 0 < count_of x list → AreAmong list rest → AreAmong list (x ∷ rest)
+one_among list x rest own others k there = elim (first_or_later k x rest there) [
+  | inl same ↦ subst (λ (y : ℕ). 0 < count_of y list) (sym same) own
+  | inr later ↦ others k later
+]
+
+either_among : (list a b : List ℕ) → AreAmong list a → AreAmong list b → AreAmong list (a ++ b)
+either_among list a b first second k there = elim (cases_lt 0 (count_of k a)) [
+  | inl in_first ↦ first k in_first
+  | inr not ↦ second k (let c = count-append k a b in omega (arith, c, there, not))
+]
+
 module _ {DE UE F : Type 0} where
   module _ (m : Mesh Point DE UE F) (mesh : IsMesh m) (e : ℕ) (turn : CanFlipInPlane (point_at m) m.shape (e / 2)) where
     abbrev n : Mesh Point DE UE F
     n = edge_flipped m (e / 2)
 
-    half_sound : (stays : UE → Bool) (due : List ℕ) → IsTriangleMesh m → LeavesLegal stays m n due ((due ++ (e / 2) ∷ []) ++ sides_beside m.shape (e / 2))
-    half_sound stays due sound = record {
-      triangulated = record {
-        closed = sound.closed;
-        joined = flipped_joined m (e / 2) sound.joined;
-        triangles = flipped m sound.triangles (e / 2);
-        plane = turn_keeps_plane m mesh (point_at m) (e / 2) turn sound.plane;
-      };
-      listed = flip_listed stays m mesh (e / 2) turn.can due;
-    }
+    half_spoke : (v : ℕ) → origin_of m.shape e ≡ v → (origin_of m.shape (2 * (e / 2)) ≡ v) ⊎ (origin_of m.shape (2 * (e / 2) + 1) ≡ v)
+    half_spoke v from = elim (cases_eq e (2 * (e / 2))) [
+      | inl even ↦ inl (ap (origin_of m.shape) (sym even) ∙ from)
+      | inr not ↦ (let odd : 2 * (e / 2) + 1 ≡ e = omega (arith, not) in inr (ap (origin_of m.shape) odd ∙ from))
+    ]
+
+    module _ (v : ℕ) (from : origin_of m.shape e ≡ v) (list : List ℕ) (around : ListsAround m.shape v list) where
+      half_around : ListsAround n.shape v list
+      half_around = still_around m mesh v (e / 2) turn.can (half_spoke v from) turn.inner turn.inner_facing list around
+
+      -- the edge and the other sides are listed already
+      open (at_edge m.shape (e / 2)) use {ep, en, tp, tn}
+      open (at_flip m (e / 2) mesh turn.can) use {was, facing}
+
+      near : (k : ℕ) → IsLive m.shape k → face_of m.shape k ≡ face_of m.shape (2 * (e / 2)) → 0 < count_of (k / 2) list
+      near = near_listed m mesh v (e / 2) turn.can (half_spoke v from) turn.inner turn.inner_facing list around
+
+      far : (k : ℕ) → IsLive m.shape k → face_of m.shape k ≡ face_of m.shape (2 * (e / 2) + 1) → 0 < count_of (k / 2) list
+      far = far_listed m mesh v (e / 2) turn.can (half_spoke v from) turn.inner turn.inner_facing list around
+
+      half_own : 0 < count_of (e / 2) list
+      half_own = (let there = near (2 * (e / 2)) was.live_x was.face_x in let half : 2 * (e / 2) / 2 ≡ e / 2 = omega arith in subst (λ (k : ℕ). 0 < count_of k list) half there)
+
+      half_listed : (w : ℕ) → 0 < count_of w ((list ++ (e / 2) ∷ []) ++ sides_beside m.shape (e / 2)) → 0 < count_of w list
+      half_listed w there =
+          either_among list (list ++ (e / 2) ∷ []) (sides_beside m.shape (e / 2))
+          (either_among list list ((e / 2) ∷ []) (λ k found. found) (one_among list (e / 2) [] half_own (λ k found. absurd (omega (arith, found)))))
+          (one_among list (en / 2) (ep / 2 ∷ tn / 2 ∷ tp / 2 ∷ []) (near en was.live_y was.face_y)
+          (one_among list (ep / 2) (tn / 2 ∷ tp / 2 ∷ []) (near ep was.live_z was.face_z)
+          (one_among list (tn / 2) (tp / 2 ∷ []) (far tn facing.live_y facing.face_y)
+          (one_among list (tp / 2) [] (far tp facing.live_z facing.face_z) (λ k found. absurd (omega (arith, found)))))))
+          w there
+
+      half_sound : (stays : UE → Bool) → IsTriangleMesh m → LeavesLegal stays m n list list
+      half_sound stays sound = record {
+        triangulated = record {
+          closed = sound.closed;
+          joined = flipped_joined m (e / 2) sound.joined;
+          triangles = flipped m sound.triangles (e / 2);
+          plane = turn_keeps_plane m mesh (point_at m) (e / 2) turn sound.plane;
+        };
+        listed = λ lists w is. half_listed w (flip_listed stays m mesh (e / 2) turn.can list lists w is);
+      }
 
     half_hull : HasHull m → HasHull n
     half_hull has =
@@ -102,21 +157,8 @@ module _ {DE UE F : Type 0} where
         omega (arith, less)
 
 module _ {DE UE F : Type 0} (stays : UE → Bool) where
-  -- what holds once the edge of a vertex is flipped
-  pub record IsThinned (m : Mesh Point DE UE F) (due : List ℕ) (v : ℕ) (n : Mesh Point DE UE F) (rest : List ℕ) : Type 0 where
-    pub mesh : IsMesh n
-    pub below : v < n.shape.vertices
-    pub keeps : Keeps m n
-    pub edges : n.shape.edges ≡ m.shape.edges
-    pub sound : LeavesLegal stays m n due rest
-    pub hull : HasHull n
-    pub inside : IsInnerVertex m.shape v → IsInnerVertex n.shape v
-    pub outside : (h : ℕ) → StartsOutside m v h → StartsOutside n v h
-    pub staying : KeepsStaying stays m n
-    pub loose : ¬ HasConstraintAt stays n v
-
-  pub thin_begins : (m : Mesh Point DE UE F) (due : List ℕ) (v : ℕ) → IsMesh m → IsTriangleMesh m → HasHull m → v < m.shape.vertices → ¬ HasConstraintAt stays m v → IsThinned m due v m due
-  thin_begins m due v mesh sound has below loose = record {
+  pub thin_begins : (m : Mesh Point DE UE F) (v : ℕ) (list : List ℕ) → IsMesh m → IsTriangleMesh m → HasHull m → v < m.shape.vertices → ¬ HasConstraintAt stays m v → ListsAround m.shape v list → IsThinned stays m m v list
+  thin_begins m v list mesh sound has below loose around = record {
     mesh = mesh;
     below = below;
     keeps = record { closed = sound.closed; vertices = refl; points = refl; edges = omega arith };
@@ -127,29 +169,30 @@ module _ {DE UE F : Type 0} (stays : UE → Bool) where
     outside = λ h is. is;
     staying = λ a b. (λ is. is, λ is. is);
     loose = loose;
+    around = around;
   }
 
-  module _ (m : Mesh Point DE UE F) (due : List ℕ) (v : ℕ) (n : Mesh Point DE UE F) (rest : List ℕ) (way : IsThinned m due v n rest) where
-    at_half : (e : ℕ) → IsOutEdge n.shape v e → CanFlipInPlane (point_at n) n.shape (e / 2)
-        → IsThinned m due v (edge_flipped n (e / 2)) ((rest ++ (e / 2) ∷ []) ++ sides_beside n.shape (e / 2))
+  module _ (m n : Mesh Point DE UE F) (v : ℕ) (list : List ℕ) (way : IsThinned stays m n v list) where
+    at_half : (e : ℕ) → IsOutEdge n.shape v e → CanFlipInPlane (point_at n) n.shape (e / 2) → IsThinned stays m (edge_flipped n (e / 2)) v list
     at_half e out turn = record {
       mesh = flipped_mesh n (e / 2) way.mesh turn.can;
       below = way.below;
       keeps = keeps-trans m n (edge_flipped n (e / 2)) way.keeps (flipped-keeps n way.sound.closed (e / 2));
       edges = way.edges;
-      sound = legal_trans stays m n (edge_flipped n (e / 2)) due rest _ way.sound (half_sound n way.mesh e turn stays rest way.sound.triangulated);
+      sound = legal_trans stays m n (edge_flipped n (e / 2)) list list list way.sound (half_sound n way.mesh e turn v out.start list way.around stays way.sound.triangulated);
       hull = half_hull n way.mesh e turn way.hull;
       inside = λ inside. half_inside n way.mesh e turn v (way.inside inside);
       outside = λ h is. half_outside n way.mesh e turn v h (way.outside h is);
       staying = keeps_trans stays m n (edge_flipped n (e / 2)) way.staying (flip_staying stays n (e / 2) (λ stay. way.loose (e, out, stay)));
       loose = flip_loose stays n (e / 2) (λ stay. way.loose (e, out, stay)) v way.loose;
+      around = half_around n way.mesh e turn v out.start list way.around;
     }
 
     module _ (u : ℕ) (turn : IsTurnable n v u) where
-      pub thins : IsThinned m due v (edge_flipped n u) ((rest ++ u ∷ []) ++ sides_beside n.shape u)
+      pub thins : IsThinned stays m (edge_flipped n u) v list
       thins =
           let can = subst (λ (k : ℕ). CanFlipInPlane (point_at n) n.shape k) (sym turn.is) turn.can in
-          subst (λ (k : ℕ). IsThinned m due v (edge_flipped n k) ((rest ++ k ∷ []) ++ sides_beside n.shape k)) turn.is (at_half turn.half turn.out can)
+          subst (λ (k : ℕ). IsThinned stays m (edge_flipped n k) v list) turn.is (at_half turn.half turn.out can)
 
       pub one_less : (after : Mesh Point DE UE F) → after ≡ edge_flipped n u → length (out_edges_of after v) < length (out_edges_of n v)
       one_less after is =
@@ -157,3 +200,10 @@ module _ {DE UE F : Type 0} (stays : UE → Bool) where
           subst (λ (k : Mesh Point DE UE F). length (out_edges_of k v) < length (out_edges_of n v)) (sym is)
           (subst (λ (k : ℕ). length (out_edges_of (edge_flipped n k) v) < length (out_edges_of n v)) turn.is
           (half_less n way.mesh turn.half can v way.below turn.out.start))
+
+  -- a list that has more
+  pub listed_more : (m n : Mesh Point DE UE F) (first list : List ℕ) → ((u : ℕ) → 0 < count_of u first → 0 < count_of u list) → LeavesLegal stays m n list list → LeavesLegal stays m n first list
+  listed_more m n first list more sound = record { triangulated = sound.triangulated; listed = λ lists. sound.listed (λ u is. more u (lists u is)) }
+
+  pub listed_only : (m : Mesh Point DE UE F) (first list : List ℕ) → IsTriangleMesh m → ((u : ℕ) → 0 < count_of u first → 0 < count_of u list) → LeavesLegal stays m m first list
+  listed_only m first list sound more = record { triangulated = sound; listed = λ lists u is. more u (lists u is) }

@@ -5,5 +5,6 @@ pub mod Lists
 pub mod Needless
 pub mod Removing
 pub mod Staying
+pub mod Thinning
 pub mod Triangles
 pub mod Triangulated

@@ -1,13 +1,14 @@
 //! What a removal gave up taken out, with the vertex, and the edges that are listed by their new
 //! numbers.
 
-ghost use Rattle.std.specs.Prelude.{◌≡◌, ◌-◌, ◌<◌, ◌≤◌, ◌==◌, IsTrue, None, Some, cond, length, map, reverse, slice_index_or, slice_set, true, vec_len, ℕ};
+ghost use Rattle.std.specs.Prelude.{◌≡◌, ◌-◌, ◌<◌, ◌≤◌, ◌==◌, ◌↔◌, ◌+◌, IsTrue, None, Some, cond, length, map, reverse, slice_index_or, slice_set, true, false, vec_len, ℕ};
+ghost use Rattle.std.specs.List.{list_any};
 ghost use Rattle.dcel_maps.specs.Removals.{Cleaned, IsListed};
 ghost use Rattle.dcel_maps.specs.Renumbered.{new_edge};
-ghost use Rattle.dcel_maps.specs.Renumbering.{cleaned, cleaned_up, moved, new_number, vertex_taken_out};
+ghost use Rattle.dcel_maps.specs.Renumbering.{cleaned, cleaned_up, new_number, vertex_taken_out};
 ghost use Rattle.dcel_maps.specs.Shapes.{IsMesh, edge_is_live};
 ghost use Rattle.dcel_maps.specs.Words.{count_of};
-ghost use Rattle.dcel_delaunay.specs.Needless.{IsNeedless, IsRepeated};
+ghost use Rattle.dcel_delaunay.specs.Needless.{IsRepeated};
 
 use crate::remove::Due;
 use crate::removed::Removed;
@@ -17,8 +18,8 @@ use spade_dcel::laws::every_mesh;
 use spade_dcel::operations::{IsolateVertexResult, cleanup_isolated_vertex, swap_remove_vertex};
 use std::alloc::Allocator;
 
-/// How far back a repeated edge is looked for.
-const FEW: usize = 24;
+/// How many given-up edges are gone through one by one.
+const FEW: usize = 8;
 
 /// Takes out what a removal has given up.
 pub(crate) fn take_out<UE: Drop, A: Allocator, L: Allocator, B: Allocator>(
@@ -48,19 +49,18 @@ pub(crate) fn take_out<UE: Drop, A: Allocator, L: Allocator, B: Allocator>(
     }
 }
 
-/// Drops edges from a list that are given up, and those that it has a few places before too.
-///
-/// Each flip lists the sides of its two triangles, so most edges are listed twice.
-pub(crate) fn drop_needless<UE, A: Allocator, L: Allocator>(
+/// Drops edges from a list, from a place on, that it has before too.
+pub(crate) fn drop_repeated<UE, A: Allocator, L: Allocator>(
     dcel: &EdgeMesh<UE, A>,
     due: &mut Due<L>,
+    place: usize,
 )
     ensures { (u : ℕ) → edge_is_live dcel.now.shape u ≡ true → 0 < count_of u due.old.items → 0 < count_of u due.new.items }
 {
-    let mut at = 0;
+    let mut at = place;
     while at < due.len() {
         let edge = due[at];
-        if is_needless(dcel, due, at, edge) {
+        if is_repeated(due, at, edge) {
             let _edge = due.swap_remove(at);
         } else {
             at += 1;
@@ -68,23 +68,7 @@ pub(crate) fn drop_needless<UE, A: Allocator, L: Allocator>(
     }
 }
 
-/// Returns whether an edge, which is at this place of a list, may be dropped.
-fn is_needless<UE, A: Allocator>(
-    dcel: &EdgeMesh<UE, A>,
-    due: &[FixedUndirectedEdgeHandle],
-    at: usize,
-    edge: FixedUndirectedEdgeHandle,
-) -> bool
-    requires { at < length due.now }
-    ensures { IsTrue result → IsNeedless dcel.now.shape due.now at edge }
-{
-    if is_repeated(due, at, edge) {
-        return true;
-    }
-    !dcel.is_live_edge(edge)
-}
-
-/// Returns whether a list has an edge a few places before this one.
+/// Returns whether a list has an edge before this place.
 fn is_repeated(
     due: &[FixedUndirectedEdgeHandle],
     at: usize,
@@ -93,12 +77,47 @@ fn is_repeated(
     requires { at < length due.now }
     ensures { IsTrue result → IsRepeated due.now at edge }
 {
-    for before in at.saturating_sub(FEW)..at {
+    for before in 0..at {
         if due[before] == edge {
             return true;
         }
     }
     false
+}
+
+/// Drops edges from a list that are given up, which are those of the other list.
+pub(crate) fn drop_given_up<UE, A: Allocator, L: Allocator>(
+    dcel: &EdgeMesh<UE, A>,
+    due: &mut Due<L>,
+    given_up: &[FixedUndirectedEdgeHandle],
+)
+    requires { (u : ℕ) → list_any (λ e. e == u) given_up.now ≡ true → edge_is_live dcel.now.shape u ≡ false }
+    ensures { (u : ℕ) → edge_is_live dcel.now.shape u ≡ true → 0 < count_of u due.old.items → 0 < count_of u due.new.items }
+{
+    let mut at = 0;
+    while at < due.len() {
+        let edge = due[at];
+        if is_given_up(dcel, given_up, edge) {
+            let _edge = due.swap_remove(at);
+        } else {
+            at += 1;
+        }
+    }
+}
+
+/// Returns whether an edge is one of those that are given up.
+fn is_given_up<UE, A: Allocator>(
+    dcel: &EdgeMesh<UE, A>,
+    given_up: &[FixedUndirectedEdgeHandle],
+    edge: FixedUndirectedEdgeHandle,
+) -> bool
+    requires { (u : ℕ) → list_any (λ e. e == u) given_up.now ≡ true → edge_is_live dcel.now.shape u ≡ false }
+    ensures { IsTrue result → edge_is_live dcel.now.shape edge ≡ false }
+{
+    if given_up.len() > FEW {
+        return !dcel.is_live_edge(edge);
+    }
+    given_up.contains(&edge)
 }
 
 /// Gives each edge of a list the number that it has once these edges are taken out, from the last on.
@@ -136,24 +155,29 @@ fn number_after(
     let mut number = edge;
     let mut last = count;
     let mut left = taken_out;
-    while let Some((&gone, others)) = left.split_last() {
-        last -= 1;
-        number = number_without(number, last, gone);
+    while is_moved(number, last, left.len()) {
+        // It keeps its number until it is the last one, and then gets that of the edge that goes.
+        let place = number.index();
+        let stays = last - 1 - place;
+        let (before, _) = left.split_at(left.len() - stays);
+        let Some((&gone, others)) = before.split_last() else {
+            unreachable!()
+        };
+        number = gone;
+        last = place;
         left = others;
     }
     number
 }
 
-/// Returns the number that an edge has once one edge is gone, whose number the last one gets.
-fn number_without(
-    edge: FixedUndirectedEdgeHandle,
-    last: usize,
-    gone: FixedUndirectedEdgeHandle,
-) -> FixedUndirectedEdgeHandle
-    ensures { result ≡ moved last gone edge }
+/// Returns whether an edge gets another number if so many edges go, each time the one after the last
+/// that stays.
+fn is_moved(edge: FixedUndirectedEdgeHandle, last: usize, going: usize) -> bool
+    ensures { IsTrue result ↔ ((edge < last) × (last ≤ edge + going)) }
 {
-    if edge.index() == last {
-        return gone;
+    let number = edge.index();
+    if number >= last {
+        return false;
     }
-    edge
+    last - number <= going
 }

@@ -16,7 +16,6 @@ ghost use Rattle.spade_dcel.specs.Handles.{mesh_behind, number_of};
 use dcel_planar::{Edge, EdgeMesh, Point, point_of};
 use spade_dcel::handles::{FixedDirectedEdgeHandle, FixedVertexHandle};
 use std::alloc::Allocator;
-use std::num::nearest_i64_to_f64;
 
 /// Where a vertex has more edges, ears aren't measured: each search goes through all of them.
 pub(crate) const MOST_EARS: usize = 16;
@@ -28,25 +27,26 @@ const NEVER: f64 = f64::INFINITY;
 #[derive(Drop)]
 pub(crate) struct Ring {
     corners: [Corner; MOST_EARS],
+    // Where the plane of each corner's ear is at the vertex.
+    heights: [f64; MOST_EARS],
     count: u8,
+    left: u8,
 }
 
 /// A neighbor of the vertex.
 #[derive(Clone, Copy)]
 struct Corner {
+    // Where it is, seen from the vertex, and the square of the distance.
+    x: f64,
+    y: f64,
+    lift: f64,
+    // Twice the area of the triangle with the vertex and the corner after it.
+    area: f64,
     // The edge that ends here.
     spoke: FixedDirectedEdgeHandle,
-    on_hull: bool,
     // The places of its neighbors in the ring.
     before: u8,
     after: u8,
-    // Where it is, seen from the vertex.
-    x: f64,
-    y: f64,
-    // Twice the area of the triangle with the vertex and the corner after it.
-    area: f64,
-    // Where the plane of its ear is at the vertex.
-    height: f64,
 }
 
 impl Ring {
@@ -54,22 +54,23 @@ impl Ring {
     #[inline(always)]
     pub(crate) fn new() -> Self {
         let corner = Corner {
-            spoke: FixedDirectedEdgeHandle::new(0),
-            on_hull: true,
-            before: 0,
-            after: 0,
             x: 0.0,
             y: 0.0,
+            lift: 0.0,
             area: 0.0,
-            height: NEVER,
+            spoke: FixedDirectedEdgeHandle::new(0),
+            before: 0,
+            after: 0,
         };
         Ring {
             corners: [corner; MOST_EARS],
+            heights: [NEVER; MOST_EARS],
             count: 0,
+            left: 0,
         }
     }
 
-    /// Goes round a vertex and measures its ears, unless it has too many edges.
+    /// Goes round a vertex and measures its ears, unless it is on the hull or has too many edges.
     pub(crate) fn measure<UE, A: Allocator>(
         &mut self,
         dcel: &EdgeMesh<UE, A>,
@@ -79,8 +80,8 @@ impl Ring {
     {
         let center = point_of(dcel.vertex(vertex));
         for spoke in dcel.vertex(vertex).out_edges() {
-            if usize::from(self.count) >= MOST_EARS {
-                self.count = 0;
+            if usize::from(self.count) >= MOST_EARS || spoke.is_outer_edge() {
+                self.left = 0;
                 return;
             }
             self.push(spoke, center);
@@ -88,19 +89,24 @@ impl Ring {
         self.close();
     }
 
-    /// Returns the place of the lowest ear, if there is an ear.
+    /// Returns the place of the lowest ear, if there is an ear and more than three corners are left.
     #[inline]
     pub(crate) fn lowest(&self) -> Option<u8> {
-        let mut lowest = NEVER;
-        let mut found = None;
-        for place in 0..self.count {
-            let height = self.at(place).height;
-            if height < lowest {
-                lowest = height;
-                found = Some(place);
-            }
+        if self.left <= 3 {
+            return None;
         }
-        found
+        let mut lowest = NEVER;
+        let mut found = 0;
+        for place in 0..self.count {
+            let height = self.heights[usize::from(place) % MOST_EARS];
+            let is_lower = height < lowest;
+            lowest = if is_lower { height } else { lowest };
+            found = if is_lower { place } else { found };
+        }
+        if lowest < NEVER {
+            return Some(found);
+        }
+        None
     }
 
     /// Returns the edge that a flip takes from the vertex to cut off an ear.
@@ -114,6 +120,7 @@ impl Ring {
     pub(crate) fn cut(&mut self, place: u8) {
         let (before, after) = (self.at(place).before, self.at(place).after);
         self.pass_over(place);
+        self.left = self.left.wrapping_sub(1);
         self.at_mut(before).after = after;
         self.at_mut(after).before = before;
         self.set_area(before);
@@ -124,7 +131,7 @@ impl Ring {
     /// Leaves out an ear that can't be cut off, until a neighbor of its corner is.
     #[inline]
     pub(crate) fn pass_over(&mut self, place: u8) {
-        self.at_mut(place).height = NEVER;
+        self.heights[usize::from(place) % MOST_EARS] = NEVER;
     }
 
     /// Adds the corner where an edge of the vertex ends.
@@ -134,17 +141,21 @@ impl Ring {
     {
         let place = self.count;
         let at = point_of(spoke.to());
+        let (x, y) = (
+            nearest(at.x.wrapping_sub(center.x)),
+            nearest(at.y.wrapping_sub(center.y)),
+        );
         *self.at_mut(place) = Corner {
+            x,
+            y,
+            lift: x * x + y * y,
+            area: 0.0,
             spoke: spoke.fix(),
-            on_hull: spoke.is_part_of_convex_hull(),
             before: place.wrapping_sub(1),
             after: place.wrapping_add(1),
-            x: nearest_i64_to_f64(at.x.wrapping_sub(center.x)),
-            y: nearest_i64_to_f64(at.y.wrapping_sub(center.y)),
-            area: 0.0,
-            height: NEVER,
         };
         self.count = place.wrapping_add(1);
+        self.left = self.count;
     }
 
     /// Joins the last corner to the first one, and measures all.
@@ -175,13 +186,10 @@ impl Ring {
         let (before, after) = (self.at(corner.before), self.at(corner.after));
         let cut_off = cross(before, after);
         let area = before.area + corner.area - cut_off;
-        let mut height = NEVER;
-        if cut_off > 0.0 && area > 0.0 && !corner.on_hull {
-            let volume = lift(before) * corner.area - lift(corner) * cut_off
-                + lift(after) * before.area;
-            height = volume / area;
-        }
-        self.at_mut(place).height = height;
+        let volume = before.lift * corner.area - corner.lift * cut_off + after.lift * before.area;
+        let height = volume / area;
+        let is_ear = (cut_off > 0.0) & (area > 0.0);
+        self.heights[usize::from(place) % MOST_EARS] = if is_ear { height } else { NEVER };
     }
 
     #[inline(always)]
@@ -202,7 +210,10 @@ fn cross(a: &Corner, b: &Corner) -> f64 {
     a.x * b.y - a.y * b.x
 }
 
+/// Returns a difference of coordinates as a double, without a branch on its sign.
 #[inline(always)]
-fn lift(corner: &Corner) -> f64 {
-    corner.x * corner.x + corner.y * corner.y
+fn nearest(difference: i64) -> f64 {
+    let above = difference.wrapping_add(1 << 55).cast_unsigned();
+    let upper = (above >> 32) as f64 - 8_388_608.0;
+    upper * 4_294_967_296.0 + (above & 0xffff_ffff) as f64
 }

@@ -9,7 +9,7 @@ ghost use Rattle.dcel_delaunay.specs.Staying.{HasConstraintAt, KeepsStaying, Lea
 
 use crate::free::FreeByDefault;
 use crate::remove::Due;
-use crate::remove::cleanup::{drop_needless, take_out};
+use crate::remove::cleanup::{drop_given_up, drop_repeated, take_out};
 use crate::remove::corner::cut_off;
 use crate::remove::flips::thin_out;
 use crate::remove::hole::fill;
@@ -42,9 +42,11 @@ pub(crate) fn cut_out<UE: FreeByDefault + Drop, A: Allocator + Clone, L: Allocat
     ensures hull { IsFlat dcel.new ⊎ HasHull dcel.new }
 {
     every_mesh(dcel);
-    thin_out(dcel, due, vertex)?;
+    thin_out(dcel, due, vertex, false)?;
+    let listed = due.len();
     let mut opened = fill(dcel, due, vertex)?;
-    drop_needless(dcel, due);
+    drop_repeated(dcel, due, listed);
+    drop_given_up(dcel, due, &opened.edges_to_remove);
     Ok(take_out(dcel, due, &mut opened, vertex))
 }
 
@@ -70,8 +72,8 @@ pub(crate) fn cut_out_corner<UE: EdgeConstraint + Drop, A: Allocator + Clone, L:
     ensures hull { IsFlat dcel.new ⊎ HasHull dcel.new }
 {
     every_mesh(dcel);
-    thin_out(dcel, due, vertex)?;
+    thin_out(dcel, due, vertex, true)?;
     let mut opened = cut_off(dcel, due, outside, vertex)?;
-    drop_needless(dcel, due);
+    drop_given_up(dcel, due, &opened.edges_to_remove);
     Ok(take_out(dcel, due, &mut opened, vertex))
 }

@@ -1,32 +1,27 @@
 use Rattle.std.proofs.Common.{arith}
-use Rattle.dcel_delaunay.proofs.Thinned.{one_less, thins}
+use Rattle.dcel_planar.proofs.Growth.{keeps-trans}
+use Rattle.dcel_delaunay.proofs.Staying.{keeps_trans, legal_trans}
+use Rattle.dcel_delaunay.proofs.Thinned.{listed_more, listed_only}
 use Rattle.dcel_delaunay.proofs.remove.flips.thin_out.Goals as goal
 
-pub loop-edge-init : goal.loop-edge-init
-loop-edge-init g c =
-    let cut = c.cut_ears.ensures in
-    record {
-      mesh = cut.mesh;
-      below = omega (arith, c.requires.vertex, cut.keeps.vertices);
-      keeps = cut.keeps;
-      edges = cut.same_edges;
-      sound = cut.sound;
-      hull = cut.hull;
-      inside = cut.inside;
-      outside = cut.outside;
-      staying = cut.staying;
-      loose = cut.loose;
-    }
+pub returns-in_err-list_around-clause-sound : goal.returns-in_err-list_around-clause-sound
+returns-in_err-list_around-clause-sound g c = listed_only _ c.args.dcel.now _ _ c.requires.sound c.list_around.ensures.keeps
 
-pub turn-requires-clause-can : goal.turn-requires-clause-can
-turn-requires-clause-can g c = c.in-Some.ensures.some.can.can
+pub returns-clause-sound : goal.returns-clause-sound
+returns-clause-sound g c =
+    let list = c.list_around.new.due.items in
+    listed_more _ c.args.dcel.now c.cut_others.new.dcel _ list c.list_around.ensures.keeps
+    (legal_trans _ c.args.dcel.now c.cut_ears.new.dcel c.cut_others.new.dcel list list list c.cut_ears.ensures.thinned.sound c.cut_others.ensures.thinned.sound)
 
-pub loop-edge-smaller : goal.loop-edge-smaller
-loop-edge-smaller g c =
-    one_less _ c.args.dcel.now c.args.due.now.items c.args.vertex c.loop-edge.dcel c.loop-edge.due.items c.loop-edge.invariant c.in-Some.edge c.in-Some.ensures.some
-    c.turn.new.dcel c.turn.ensures.edit
+pub returns-clause-keeps : goal.returns-clause-keeps
+returns-clause-keeps g c = keeps-trans c.args.dcel.now c.cut_ears.new.dcel c.cut_others.new.dcel c.cut_ears.ensures.thinned.keeps c.cut_others.ensures.thinned.keeps
 
-pub loop-edge-preserved : goal.loop-edge-preserved
-loop-edge-preserved g c =
-    rw (c.turn.ensures.lists, c.turn.ensures.edit, c.reserve.ensures.items)
-    (thins _ c.args.dcel.now c.args.due.now.items c.args.vertex c.loop-edge.dcel c.loop-edge.due.items c.loop-edge.invariant c.in-Some.edge c.in-Some.ensures.some)
+pub returns-clause-staying : goal.returns-clause-staying
+returns-clause-staying g c =
+    keeps_trans _ c.args.dcel.now c.cut_ears.new.dcel c.cut_others.new.dcel c.cut_ears.ensures.thinned.staying c.cut_others.ensures.thinned.staying
+
+pub returns-clause-inside : goal.returns-clause-inside
+returns-clause-inside g c = λ inside. c.cut_others.ensures.thinned.inside (c.cut_ears.ensures.thinned.inside inside)
+
+pub returns-clause-outside : goal.returns-clause-outside
+returns-clause-outside g c = λ h is. c.cut_others.ensures.thinned.outside h (c.cut_ears.ensures.thinned.outside h is)

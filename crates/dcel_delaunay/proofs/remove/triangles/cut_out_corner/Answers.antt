@@ -3,7 +3,7 @@ use Rattle.dcel_maps.specs.Renumbering.{cleaned}
 use Rattle.dcel_planar.proofs.Growth.{keeps-trans}
 use Rattle.dcel_planar.proofs.Whole.{on_err}
 use Rattle.dcel_delaunay.proofs.Lost.{lost_before, lost_staying, more_vertices, outside_below}
-use Rattle.dcel_delaunay.proofs.Needless.{given_fewer}
+use Rattle.dcel_delaunay.proofs.Fewer.{given_fewer, named_dead}
 use Rattle.dcel_delaunay.proofs.Staying.{keeps_trans, legal_trans}
 use Rattle.dcel_delaunay.proofs.TakenOut.{taken_hull, taken_loses, taken_sound, taken_staying}
 use Rattle.dcel_delaunay.proofs.remove.triangles.cut_out_corner.Goals as goal
@@ -15,6 +15,9 @@ pub cut_off-requires-clause-corner : goal.cut_off-requires-clause-corner
 cut_off-requires-clause-corner g c =
     let thinned = c.thin_out.ensures in
     record { outside = thinned.outside c.args.outside c.requires.outside; hull = thinned.hull; none = c.in_ok-thin_out.ensures.done }
+
+pub drop_given_up-requires : goal.drop_given_up-requires
+drop_given_up-requires g c = rw c.deref.ensures.value (named_dead c.cut_off.new.dcel.shape _ _ c.in_ok-opened.ensures.given_up.named)
 
 pub take_out-requires-clause-given_up : goal.take_out-requires-clause-given_up
 take_out-requires-clause-given_up g c = ap cleaned c.in_ok-opened.ensures.given_up.removal
@@ -36,29 +39,29 @@ pub returns-clause-sound : goal.returns-clause-sound
 returns-clause-sound g c =
     let mid = c.thin_out.new.dcel in
     let thinned = c.thin_out.ensures in
-    let given = given_fewer _ mid c.cut_off.new.dcel c.args.vertex c.thin_out.new.due.items c.cut_off.new.due.items c.drop_needless.new.due.items _ c.in_ok-opened.ensures.given_up c.drop_needless.ensures in
+    let given = given_fewer _ mid c.cut_off.new.dcel c.args.vertex c.thin_out.new.due.items c.cut_off.new.due.items c.drop_given_up.new.due.items _ c.in_ok-opened.ensures.given_up c.drop_given_up.ensures in
     let within = outside_below mid thinned.mesh c.args.vertex c.args.outside (thinned.outside c.args.outside c.requires.outside) in
     legal_trans _ c.args.dcel.now mid c.take_out.new.dcel c.args.due.now.items c.thin_out.new.due.items c.take_out.new.due.items thinned.sound
-    (taken_sound _ mid c.cut_off.new.dcel c.take_out.new.dcel c.args.vertex c.thin_out.new.due.items c.drop_needless.new.due.items c.take_out.new.due.items _ given within
+    (taken_sound _ mid c.cut_off.new.dcel c.take_out.new.dcel c.args.vertex c.thin_out.new.due.items c.drop_given_up.new.due.items c.take_out.new.due.items _ given within
     (more_vertices mid thinned.mesh thinned.sound.triangulated thinned.hull) c.take_out.ensures.clean c.take_out.ensures.mesh c.take_out.ensures.edit c.take_out.ensures.due)
 
 pub returns-clause-hull : goal.returns-clause-hull
 returns-clause-hull g c =
     let mid = c.thin_out.new.dcel in
     let thinned = c.thin_out.ensures in
-    let given = given_fewer _ mid c.cut_off.new.dcel c.args.vertex c.thin_out.new.due.items c.cut_off.new.due.items c.drop_needless.new.due.items _ c.in_ok-opened.ensures.given_up c.drop_needless.ensures in
+    let given = given_fewer _ mid c.cut_off.new.dcel c.args.vertex c.thin_out.new.due.items c.cut_off.new.due.items c.drop_given_up.new.due.items _ c.in_ok-opened.ensures.given_up c.drop_given_up.ensures in
     let within = outside_below mid thinned.mesh c.args.vertex c.args.outside (thinned.outside c.args.outside c.requires.outside) in
-    taken_hull _ mid c.cut_off.new.dcel c.take_out.new.dcel c.args.vertex c.thin_out.new.due.items c.drop_needless.new.due.items c.take_out.new.due.items _ given within
+    taken_hull _ mid c.cut_off.new.dcel c.take_out.new.dcel c.args.vertex c.thin_out.new.due.items c.drop_given_up.new.due.items c.take_out.new.due.items _ given within
     (more_vertices mid thinned.mesh thinned.sound.triangulated thinned.hull) c.take_out.ensures.clean c.take_out.ensures.mesh c.take_out.ensures.edit c.take_out.ensures.due
 
 pub returns-clause-loses : goal.returns-clause-loses
 returns-clause-loses g c =
     let mid = c.thin_out.new.dcel in
     let thinned = c.thin_out.ensures in
-    let given = given_fewer _ mid c.cut_off.new.dcel c.args.vertex c.thin_out.new.due.items c.cut_off.new.due.items c.drop_needless.new.due.items _ c.in_ok-opened.ensures.given_up c.drop_needless.ensures in
+    let given = given_fewer _ mid c.cut_off.new.dcel c.args.vertex c.thin_out.new.due.items c.cut_off.new.due.items c.drop_given_up.new.due.items _ c.in_ok-opened.ensures.given_up c.drop_given_up.ensures in
     let within = outside_below mid thinned.mesh c.args.vertex c.args.outside (thinned.outside c.args.outside c.requires.outside) in
     lost_before c.args.dcel.now mid c.take_out.new.dcel c.args.vertex c.take_out.result thinned.keeps.points thinned.keeps.vertices
-    (taken_loses _ mid c.cut_off.new.dcel c.take_out.new.dcel c.args.vertex c.thin_out.new.due.items c.drop_needless.new.due.items c.take_out.new.due.items _ given within
+    (taken_loses _ mid c.cut_off.new.dcel c.take_out.new.dcel c.args.vertex c.thin_out.new.due.items c.drop_given_up.new.due.items c.take_out.new.due.items _ given within
     (more_vertices mid thinned.mesh thinned.sound.triangulated thinned.hull) c.take_out.ensures.clean c.take_out.ensures.mesh c.take_out.ensures.edit c.take_out.ensures.due
     c.take_out.result c.take_out.ensures.point c.take_out.ensures.moved)
 
@@ -66,10 +69,10 @@ pub returns-clause-staying : goal.returns-clause-staying
 returns-clause-staying g c =
     let mid = c.thin_out.new.dcel in
     let thinned = c.thin_out.ensures in
-    let given = given_fewer _ mid c.cut_off.new.dcel c.args.vertex c.thin_out.new.due.items c.cut_off.new.due.items c.drop_needless.new.due.items _ c.in_ok-opened.ensures.given_up c.drop_needless.ensures in
+    let given = given_fewer _ mid c.cut_off.new.dcel c.args.vertex c.thin_out.new.due.items c.cut_off.new.due.items c.drop_given_up.new.due.items _ c.in_ok-opened.ensures.given_up c.drop_given_up.ensures in
     let within = outside_below mid thinned.mesh c.args.vertex c.args.outside (thinned.outside c.args.outside c.requires.outside) in
     lost_staying _ c.args.dcel.now mid c.take_out.new.dcel c.args.vertex thinned.keeps.vertices thinned.staying
-    (taken_staying _ mid c.cut_off.new.dcel c.take_out.new.dcel c.args.vertex c.thin_out.new.due.items c.drop_needless.new.due.items c.take_out.new.due.items _ given within
+    (taken_staying _ mid c.cut_off.new.dcel c.take_out.new.dcel c.args.vertex c.thin_out.new.due.items c.drop_given_up.new.due.items c.take_out.new.due.items _ given within
     (more_vertices mid thinned.mesh thinned.sound.triangulated thinned.hull) c.take_out.ensures.clean c.take_out.ensures.mesh c.take_out.ensures.edit c.take_out.ensures.due)
 
 pub returns-in_err-opened-clause-still : goal.returns-in_err-opened-clause-still

@@ -1,6 +1,6 @@
 use Rattle.std.proofs.Common.{◌-◌, vec_len}
-use Rattle.dcel_delaunay.proofs.Needless.{KeepsNeeded}
-use Rattle.dcel_delaunay.proofs.remove.cleanup.drop_needless.Given as goal
+use Rattle.dcel_delaunay.proofs.Fewer.{KeepsNeeded}
+use Rattle.dcel_delaunay.proofs.remove.cleanup.drop_repeated.Given as goal
 
 abbrev pub invariant-loop-at : goal.invariant-loop-at
 invariant-loop-at g l = KeepsNeeded l.dcel.shape l.fn.due.items l.due.items

@@ -1,18 +1,18 @@
-use Rattle.std.proofs.Common.{arith, vec_len}
-use Rattle.dcel_delaunay.proofs.Needless.{needed_stay}
-use Rattle.dcel_delaunay.proofs.remove.cleanup.drop_needless.Goals as goal
+use Rattle.std.proofs.Common.{inr, arith, vec_len}
+use Rattle.dcel_delaunay.proofs.Fewer.{needed_stay}
+use Rattle.dcel_delaunay.proofs.remove.cleanup.drop_given_up.Goals as goal
 
 pub loop-at-init : goal.loop-at-init
 loop-at-init g c = λ u live there. there
 
-pub loop-at-preserved-then-is_needless : goal.loop-at-preserved-then-is_needless
-loop-at-preserved-then-is_needless g c =
+pub loop-at-preserved-then-is_given_up : goal.loop-at-preserved-then-is_given_up
+loop-at-preserved-then-is_given_up g c =
     let list = c.loop-at.due in
     let rest = c.swap_remove-edge.new.self in
     let by_index = c.swap_remove-edge.ensures.by_index in
     λ u live there.
     needed_stay c.args.dcel.now.shape list.items rest.items c.loop-at.at c.index-edge.result.now (omega (arith, c.loop-at-test.true, c.len.ensures, list.ok)) c.index-edge.ensures
-    (omega (arith, c.swap_remove-edge.ensures.len, list.ok, rest.ok)) (rw c.deref.ensures.value at (c.is_needless.ensures c.if-is_needless.true)) (vec_len list)
+    (omega (arith, c.swap_remove-edge.ensures.len, list.ok, rest.ok)) (inr (c.is_given_up.ensures c.if-is_given_up.true)) (vec_len list)
     (omega (arith, list.ok)) by_index.0 by_index.1 u live (c.loop-at.invariant u live there)
 
 pub returns : goal.returns

@@ -1,9 +1,13 @@
 -- A list of edges without those that need not be looked at.
-use Rattle.std.proofs.Common.{◌≡◌, ◌≢◌, inl, inr, ℕ, suc, ◌+◌, ◌-◌, ◌<◌, true, Bool, List, [], ◌∷◌, length, slice_index_or, sym, ap, ◌∙◌, subst, arith}
-use Rattle.std.proofs.lemmas.Bool.{cases_eq, cases_lt, false≢true}
+use Rattle.std.proofs.Common.{◌≡◌, ◌≢◌, inl, inr, ℕ, suc, ◌+◌, ◌-◌, ◌<◌, ◌==◌, true, false, Bool, List, [], ◌∷◌, length, slice_index_or, sym, ap, ◌∙◌, subst, arith}
+use Rattle.std.specs.List.{list_any}
+use Rattle.std.proofs.lemmas.Bool.{cases_eq, cases_lt, false_from_ne_true, false≢true}
 use Rattle.spade_dcel.specs.declared.operations.results.IsolateVertexResult.{IsolateVertexResult}
+use Rattle.dcel_maps.specs.Removals.{Cleaned, Closed, IsListed, Isolated, Removal, gives_up_edge}
 use Rattle.dcel_maps.specs.Shapes.{Mesh, Shape, edge_is_live}
 use Rattle.dcel_maps.specs.Words.{count_of}
+use Rattle.dcel_maps.proofs.Liveness.{is_live-parts}
+use Rattle.dcel_maps.proofs.words.Ascending.{any-ascending}
 use Rattle.dcel_maps.proofs.words.Counts.{first_or_later}
 use Rattle.dcel_maps.proofs.words.Mapped.{count-at}
 use Rattle.dcel_predicates.specs.declared.point.Point.{Point}
@@ -18,7 +22,19 @@ place_of u d (x ∷ rest) there = elim (first_or_later u x rest there) [
   | inr later ↦ let (k, within, is) = place_of u d rest later in (suc k, omega (arith, within), is)
 ]
 
--- the list has each item that an earlier one has, but one that it need not have
+-- what is given up isn't live
+given_up_of : (r : Removal) (edges faces : List ℕ) → IsListed r edges faces → (u : ℕ) → list_any (λ e. e == u) edges ≡ true → gives_up_edge r u ≡ true
+unfolding gives_up_edge
+given_up_of Closed edges faces named u found = absurd named
+given_up_of (Cleaned vertex) edges faces named u found = absurd named
+given_up_of (Isolated given_edges given_faces vertex) edges faces named u found =
+    ap (list_any (λ e. e == u)) (sym named.0) ∙ any-ascending (λ e. e == u) edges ∙ found
+
+pub named_dead : (s : Shape) (edges faces : List ℕ) → IsListed s.removal edges faces → (u : ℕ) → list_any (λ e. e == u) edges ≡ true → edge_is_live s u ≡ false
+named_dead s edges faces named u found =
+    false_from_ne_true (edge_is_live s u) (λ live. false≢true (sym (is_live-parts (gives_up_edge s.removal) s.edges u live).1 ∙ given_up_of s.removal edges faces named u found))
+
+-- the list has each live item that an earlier one has
 abbrev pub KeepsNeeded : Shape → List ℕ → List ℕ → Type 0
 KeepsNeeded s list rest = (u : ℕ) → edge_is_live s u ≡ true → 0 < count_of u list → 0 < count_of u rest
 

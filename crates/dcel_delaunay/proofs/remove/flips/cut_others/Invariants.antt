@@ -1,0 +1,11 @@
+use Rattle.std.proofs.Common.{length}
+use Rattle.dcel_maps.specs.Walking.{out_edges_of}
+use Rattle.dcel_delaunay.specs.Thinning.{IsThinned}
+use Rattle.dcel_delaunay.proofs.remove.flips.cut_others.Given as goal
+
+abbrev pub invariant-loop-edge : goal.invariant-loop-edge
+invariant-loop-edge g l = IsThinned g.UE.EdgeConstraint.is_constraint l.fn.dcel l.dcel l.fn.vertex l.fn.due.items
+
+-- a flip takes one edge from the vertex
+abbrev pub decreases-loop-edge : goal.decreases-loop-edge
+decreases-loop-edge g l = length (out_edges_of l.dcel l.fn.vertex)
