@@ -44,8 +44,9 @@ def band(count):
 def arcs(count):
     """A constraint between two arcs that bend toward it."""
     half = count // 2
-    points = [(number - half // 2, side * (number - half // 2) ** 2 + side * half) for number in range(half) for side in (-1, 1)]
-    return [*points, (-half, 0), (half, 0)], [(2 * half, 2 * half + 1)]
+    places = range(-(half // 2), half - half // 2)
+    points = [(1000 * at, side * (100 * half + 1000 * at * at // half)) for at in places for side in (-1, 1)]
+    return [*points, (-1000 * half, 0), (1000 * half, 0)], [(2 * half, 2 * half + 1)]
 
 
 def comb(count):
