@@ -3,7 +3,12 @@ use Rattle.std.specs.Prelude.{◌≡◌, ◌⊎◌, ◌<◌, ◌^◌, ℕ, List,
 use Rattle.dcel_predicates.specs.declared.point.Point.{Point}
 use Rattle.mesh_page.specs.declared.points.MeshPagePoint.{MeshPagePoint}
 
--- the points have the coordinates that are given
+-- the point has the coordinates that are given
+pub record IsAt (given : MeshPagePoint) (p : Point) : Type 0 where
+  pub x : p.x ≡ given.x
+  pub y : p.y ≡ given.y
+
+-- so do the points of a list, in their order
 pub record AreRead (given : List MeshPagePoint) (points : List Point) : Type 0 where
   pub x : map (λ (p : Point). p.x) points ≡ map (λ (p : MeshPagePoint). p.x) given
   pub y : map (λ (p : Point). p.y) points ≡ map (λ (p : MeshPagePoint). p.y) given
