@@ -66,7 +66,11 @@ class Workshop {
 
   /** Lends the heap as much again as it has. */
   lend() {
-    const size = Math.max(LEAST_LENT, this.#lent), at = this.#grown(size);
+    const size = Math.max(LEAST_LENT, this.#lent);
+    this.#lendThis(this.#grown(size), size);
+  }
+
+  #lendThis(at, size) {
     this.#lent += size;
     const cell = this.cell(0);
     this.view().setBigUint64(cell, BigInt(at), true);
@@ -85,7 +89,10 @@ class Workshop {
 
   /** A place for so many bytes, until the next call of this. */
   room(size) {
-    if (this.#scratch.size < size) this.#scratch = { at: this.#grown(2 * size), size: 2 * size };
+    const { at, size: before } = this.#scratch;
+    if (before >= size) return at;
+    this.#scratch = { at: this.#grown(2 * size), size: up(2 * size) };
+    if (before) this.#lendThis(at, before);
     return this.#scratch.at;
   }
 
@@ -120,11 +127,11 @@ class Workshop {
     this.insist(() => this.#exports.mesh_page_delaunay(BigInt(this.#first), BigInt(desk)));
   }
 
-  /** Calls, and lends more memory as long as there is too little. What a call left undone is done by `finish` first. */
+  /** Calls, and lends more memory as long as there is too little: what a call has left undone, `finish` does. */
   insist(call, finish) {
-    for (let status; ; this.lend()) {
-      if (status === UNFINISHED) status = finish();
-      else status = call();
+    for (let isUnfinished = false; ; this.lend()) {
+      const status = isUnfinished ? finish() : call();
+      isUnfinished ||= status === UNFINISHED;
       if (status !== NO_MEMORY && status !== UNFINISHED) return status;
     }
   }
@@ -176,18 +183,12 @@ export class Delaunay {
   #insertAll(shop) {
     const count = this.#xs.length / 2;
     if (count === 0) return;
-    const size = Math.ceil(16 * count / 16) * 16;
-    const fill = () => {
-      const at = shop.room(size + 4 * count);
-      shop.array(BigInt64Array, at, 2 * count).set(BigInt64Array.from(this.#xs, BigInt));
-      return at;
-    };
-    let at;
-    shop.insist(() => {
-      at = fill();
-      return shop.call('insert_all', this.#desk, BigInt(at), BigInt(count), BigInt(at + size), BigInt(count));
-    }, () => shop.call('finish', this.#desk));
-    this.#vertexOf = Array.from(shop.array(Uint32Array, at + size, count));
+    const given = shop.room(20 * count), told = given + 16 * count;
+    shop.array(BigInt64Array, given, 2 * count).set(BigInt64Array.from(this.#xs, BigInt));
+    const call = () => shop.call('insert_all', this.#desk, BigInt(given), BigInt(count), BigInt(told), BigInt(count));
+    const status = shop.insist(call, () => this.#finish(shop) || call());
+    if (status !== DONE) throw new RangeError(TOO_MANY);
+    this.#vertexOf = Array.from(shop.array(Uint32Array, told, count));
     this.#vertexOf.forEach((vertex, point) => (this.#pointsOf[vertex] ??= []).push(point));
   }
 
@@ -196,13 +197,19 @@ export class Delaunay {
     return workshop;
   }
 
+  /** Does what was left undone for want of memory, and returns the status. */
+  #finish(shop) {
+    return shop.call('finish', this.#desk);
+  }
+
   #change() {
     this.#triangles = this.#halfedges = this.#hull = undefined;
   }
 
   /** The coordinates of all points, by number, those of removed ones too: an array of the kind that was given. */
   get coords() {
-    return this.#coords ??= this.#kind.from(this.#xs);
+    const isBig = this.#kind === BigInt64Array || this.#kind === BigUint64Array;
+    return this.#coords ??= this.#kind === Array ? [...this.#xs] : this.#kind.from(this.#xs, isBig ? BigInt : Number);
   }
 
   /** The corners of all triangles, three numbers of points for each. */
@@ -285,13 +292,10 @@ export class Delaunay {
 
   /** Has a point stand at these coordinates. */
   #put(point, x, y) {
-    const shop = this.#shop(), told = shop.cell(1), { call, finish } = {
-      call: () => shop.call('insert', this.#desk, BigInt(this.#pointAt(shop, x, y)), BigInt(told)),
-      finish: () => shop.call('finish', this.#desk),
-    };
+    const shop = this.#shop(), told = shop.cell(1);
+    const call = () => shop.call('insert', this.#desk, BigInt(this.#pointAt(shop, x, y)), BigInt(told));
     shop.view().setUint32(told, this.#pointsOf.length, true); // the new vertex, if memory runs out once it is there
-    const status = shop.insist(call, finish);
-    if (status !== DONE) throw new RangeError('there are too many points');
+    if (shop.insist(call, () => this.#finish(shop)) !== DONE) throw new RangeError(TOO_MANY);
     const vertex = shop.view().getUint32(told, true), points = this.#pointsOf[vertex] ??= [];
     points.push(point);
     points.sort((a, b) => a - b);
@@ -308,8 +312,8 @@ export class Delaunay {
       points.splice(points.indexOf(point), 1);
     } else {
       const told = shop.cell(1);
-      const status = shop.insist(() => shop.call('remove', this.#desk, vertex, BigInt(told)), () => shop.call('finish', this.#desk));
-      if (status !== DONE) throw new RangeError('there are too many points');
+      const call = () => shop.call('remove', this.#desk, vertex, BigInt(told));
+      if (shop.insist(call, () => this.#finish(shop)) !== DONE) throw new RangeError(TOO_MANY);
       const last = this.#pointsOf.pop();
       if (vertex < this.#pointsOf.length) {
         this.#pointsOf[vertex] = last;
@@ -322,7 +326,8 @@ export class Delaunay {
 }
 
 const OUTSIDE = 'a coordinate is no whole number from -2^53 to 2^53';
-const NO_MEMORY_LEFT = 'the mesh finds no memory';
+const NO_MEMORY_LEFT = 'the mesh finds no memory', TOO_MANY = 'there are too many points';
+const up = length => Math.ceil(length / 16) * 16;
 const isCoordinate = number => Number.isInteger(number) && Math.abs(number) <= 2 ** 53;
 const isWide = number => typeof number === 'bigint' && number >= -(2n ** 53n) && number <= 2n ** 53n;
 
@@ -400,7 +405,6 @@ function callWithRoom(name, { room = 2 ** 20, ...asked }, heap) {
 function callOnce(name, { given, givenSize = 1, flags = [], size = 1 }, heap, room) {
   compiled ??= compile();
   const { memory, ...exports } = new WebAssembly.Instance(compiled).exports;
-  const up = length => Math.ceil(length / 16) * 16;
   const before = 32 + up(given.byteLength) + up(room * size);
   const base = grown(memory, Math.ceil((before + heap) / PAGE));
   const givenAt = base + 32, answerAt = givenAt + up(given.byteLength);

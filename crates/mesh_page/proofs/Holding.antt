@@ -15,7 +15,7 @@ use mir.Val.{Val, Vals, vstruct}
 use prog.Memory.{field_at}
 use types.Part.{Part, sub, whole}
 use types.Kit.{Goal, Item, Seq, Step, step, ‵, ◌$◌, fsplit, fjoin, rewrite, use0}
-use base.Fml.{Fml, Share, fat}
+use base.Fml.{Share, fat}
 use types.Logic.{Logic, sem}
 use Rattle.lent_heap.specs.Blocks.{block_token}
 use Rattle.lent_heap.proofs.Values.{one_val, one_own, one_told, one_made}

@@ -1,5 +1,5 @@
 -- Points, as a host gives them.
-use Rattle.std.specs.Prelude.{◌≡◌, ◌⊎◌, ◌<◌, ◌^◌, ℕ, List, length, map, slice_get, Some, unsigned_abs}
+use Rattle.std.specs.Prelude.{◌≡◌, ◌⊎◌, ◌<◌, ◌^◌, ℕ, List, map, slice_get, Some, unsigned_abs}
 use Rattle.dcel_predicates.specs.declared.point.Point.{Point}
 use Rattle.mesh_page.specs.declared.points.MeshPagePoint.{MeshPagePoint}
 

@@ -11,7 +11,6 @@ use denote.Signature.{types_at}
 use denote.Steps.{nothing}
 use denote.Triple.Entry.{alive}
 use denote.Triple.Walked.{Stays, stay_dropped, walk_of}
-use mir.Syntax.{Fn}
 use mir.Val.{Val, vptr, vstruct, vcons, vnil, of_list}
 use prog.Wp.{WpFn}
 use types.ByLocal.{alloc_all, pass_all, free_all, look_at, get, get_in, sets}
