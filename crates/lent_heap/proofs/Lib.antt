@@ -1,0 +1,4 @@
+pub mod Rooms
+pub mod Sizes
+pub mod Taken
+pub mod Values
