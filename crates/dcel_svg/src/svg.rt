@@ -45,8 +45,9 @@ text { font-family: 'DejaVu Sans', Verdana, sans-serif; text-anchor: middle; }
 .face { font-size: 13px; font-weight: bold; fill: #0b4f8a; }
 .gone { stroke-dasharray: 5 4; stroke: #a23b3b; fill: none; }
 .vertex.gone { fill: #ffffff; }
+.copy { fill: #f4f2ed; stroke: #8b8b8b; stroke-width: 1.1; }
 .over { fill: #a23b3b; }
-.hatch { fill: url(#hatch); stroke: none; }
+.hatch { fill: url(#hatch); stroke: #c98b8b; stroke-width: .8; }
 .anchor { fill: #222222; stroke: none; }
 .c0 { fill: #fbe3c0; } .c1 { fill: #cfe8d5; } .c2 { fill: #d6dcf5; } .c3 { fill: #f6d3d6; }
 .c4 { fill: #d3eef2; } .c5 { fill: #f3f0bd; } .c6 { fill: #e6d5ee; }
@@ -78,7 +79,7 @@ const STYLE_OF_MARKS: &str = "\
 ///
 /// In the style of half edges each is an arrow beside its edge, on the side of its face, with its number; faces are
 /// areas with their numbers after an F, and the outer face, F0, is all around them. What an open
-/// removal has given up is dashed and hatched. Vertices without a place stand below. The document
+/// removal has given up is dashed and hatched, with copies of the vertices round it. Vertices without a place stand below. The document
 /// has a `viewBox` and no size, so it is drawn as large as there is room for it.
 ///
 /// Fails if a write fails or memory runs out; a part may be written by then.
