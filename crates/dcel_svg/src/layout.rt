@@ -57,8 +57,7 @@ impl<B: Allocator + Copy> Layout<B> {
         };
         let mut places = ring_places(alloc, net)?;
         let mut wings = wings_of(alloc, net.triangles.as_slice(), net.ring)?;
-        let mut nodes = numbers_below(alloc, net.ring)?;
-        level(&wings, &mut places, nodes.as_slice(), leveled.max(LEVELING));
+        level(&wings, &mut places, leveled.max(LEVELING));
         if !is_plain(net, places.as_slice()) {
             net.close()?;
             if let Some(found) = grid_places(alloc, net)? {
