@@ -26,26 +26,43 @@ export type Coordinates = readonly (number | bigint)[] | Float64Array | Float32A
   | Int32Array | Uint32Array | BigInt64Array | BigUint64Array;
 
 /**
- * The Delaunay triangulation of points as arrays of numbers, under delaunator's names. It is computed once, and keeps a copy of the
- * coordinates.
+ * A Delaunay triangulation of points that is kept, as arrays of numbers under delaunator's names. Points have the numbers under which they
+ * came, and keep them. Arrays are computed when they are first read, and again after a change.
  *
- * Throws a RangeError if a coordinate isn't a whole number from -2^53 to 2^53, or the last point has only one, and a TypeError if they
- * are no array.
+ * Each call throws a RangeError if a coordinate isn't a whole number from -2^53 to 2^53, no point has the number, or no memory is left, and
+ * its message begins with the argument; a TypeError if `coords` is no array, or the triangulation was freed. A call that throws changes
+ * nothing, except that a point that finds no memory while it is moved is gone.
  */
 export class Delaunay<C extends Coordinates = Coordinates> {
   constructor(coords: C);
 
-  readonly coords: C;
+  /** The coordinates of all points by number, those of removed ones too. */
+  get coords(): C;
 
   /** The numbers of the corners, three for each triangle, counterclockwise if y points up. Equal points are one, under the least number. */
-  readonly triangles: Uint32Array;
+  get triangles(): Uint32Array;
 
   /**
    * Side number 3t + k goes from corner k of triangle t to the next one, and back to the first from the last. For each side it is the
-   * number of the same side of the triangle across, or -1 on the hull. Computed when it is first read.
+   * number of the same side of the triangle across, or -1 on the hull.
    */
-  readonly halfedges: Int32Array;
+  get halfedges(): Int32Array;
 
   /** The points of the convex hull, counterclockwise if y points up, those on its sides too; none if all points are on one line. */
-  readonly hull: Uint32Array;
+  get hull(): Uint32Array;
+
+  /** Inserts a point, and returns its number: how many there were before, those removed too. */
+  insert(x: number | bigint, y: number | bigint): number;
+
+  /** Moves a point, under its number. */
+  move(point: number, x: number | bigint, y: number | bigint): void;
+
+  /** Removes a point. */
+  remove(point: number): void;
+
+  /** The least number of a point that no other one is nearer than, or -1 if there is none. */
+  nearest(x: number | bigint, y: number | bigint): number;
+
+  /** Gives back the memory, which happens too once nothing refers to the triangulation. */
+  free(): void;
 }

@@ -1,10 +1,11 @@
-// The proved mesh, called from JavaScript. The module works in memory that it is lent for good, so each call has an instance of its own.
+// The proved mesh, called from JavaScript. What is kept shares one instance of the module, whose memory grows with it; the calls that keep
+// nothing have an instance each.
 
 /** The module as base64, which tools/page puts here. */
 const WASM = '/*WASM*/';
 const PAGE = 65536;
-const LEAST_HEAP = 2 ** 24, LARGEST_HEAP = 2 ** 30;
-const SHORT = 1, NO_MEMORY = 2, OUT_OF_RANGE = 3;
+const LEAST_HEAP = 2 ** 24, LARGEST_HEAP = 2 ** 30, LEAST_LENT = 2 ** 20, CELLS = 8;
+const DONE = 0, SHORT = 1, NO_MEMORY = 2, OUT_OF_RANGE = 3, UNFINISHED = 5;
 
 /** The smallest module with a memory of 64-bit addresses. */
 const LEAST_MODULE = Uint8Array.of(0, 97, 115, 109, 1, 0, 0, 0, 5, 3, 1, 4, 0);
@@ -32,34 +33,308 @@ export function triangulate(points) {
   return Array.from({ length: numbers.length / 3 }, (_, at) => [...numbers.subarray(3 * at, 3 * at + 3)]);
 }
 
-/** The Delaunay triangulation of points whose coordinates are given one after another, as arrays of numbers. */
+/**
+ * What is kept: one instance of the module, with a heap in its memory. Each thing that is kept has a desk, 16 bytes that the module writes.
+ * Memory that a call is passed comes from `room`, and what is lent to the heap is never touched again.
+ */
+class Workshop {
+  #exports;
+  #memory;
+  #lent = 0;
+  #free = [];
+  #cells;
+  #scratch = { at: 0, size: 0 };
+  #first;
+
+  constructor() {
+    compiled ??= compile();
+    ({ memory: this.#memory, ...this.#exports } = new WebAssembly.Instance(compiled).exports);
+    this.#cells = this.#grown(PAGE);
+    this.#first = this.newDesk();
+    this.lend();
+  }
+
+  /** The place of bytes that are used by nothing else. New memory is zero. */
+  #grown(size) {
+    try {
+      return grown(this.#memory, Math.ceil(size / PAGE));
+    } catch (error) {
+      if (error instanceof RangeError) throw new RangeError(NO_MEMORY_LEFT);
+      throw error;
+    }
+  }
+
+  /** Lends the heap as much again as it has. */
+  lend() {
+    const size = Math.max(LEAST_LENT, this.#lent);
+    this.#lendThis(this.#grown(size), size);
+  }
+
+  #lendThis(at, size) {
+    this.#lent += size;
+    const cell = this.cell(0);
+    this.view().setBigUint64(cell, BigInt(at), true);
+    this.view().setBigUint64(cell + 8, BigInt(size), true);
+    this.#exports.mesh_page_lend(BigInt(this.#first), BigInt(cell));
+  }
+
+  /** One of the cells, 16 bytes each, that calls put what they tell into. */
+  cell(number) {
+    return this.#cells + 16 * number;
+  }
+
+  view() {
+    return new DataView(this.#memory.buffer);
+  }
+
+  /** A place for so many bytes, until the next call of this. */
+  room(size) {
+    const { at, size: before } = this.#scratch;
+    if (before >= size) return at;
+    this.#scratch = { at: this.#grown(2 * size), size: up(2 * size) };
+    if (before) this.#lendThis(at, before);
+    return this.#scratch.at;
+  }
+
+  /** A typed array over memory, until it grows. */
+  array(Kind, at, length) {
+    return new Kind(this.#memory.buffer, at, length);
+  }
+
+  /** A desk that nothing uses. */
+  newDesk() {
+    if (!this.#free.length) {
+      const at = this.#first === undefined ? this.#cells + 16 * CELLS : this.#grown(PAGE);
+      const end = this.#first === undefined ? this.#cells + PAGE : at + PAGE;
+      for (let desk = end - 16; desk >= at; desk -= 16) this.#free.push(desk);
+    }
+    return this.#free.pop();
+  }
+
+  /** Frees what is on a desk, which is used again. */
+  clear(desk) {
+    this.#exports.mesh_page_free(BigInt(desk));
+    this.#free.push(desk);
+  }
+
+  /** Calls an export for a desk. */
+  call(name, desk, ...given) {
+    return this.#exports[`mesh_page_${name}`](BigInt(desk), ...given);
+  }
+
+  /** Makes a triangulation on a desk. */
+  makeDelaunay(desk) {
+    this.insist(() => this.#exports.mesh_page_delaunay(BigInt(this.#first), BigInt(desk)));
+  }
+
+  /** Calls, and lends more memory as long as there is too little: what a call has left undone, `finish` does. */
+  insist(call, finish) {
+    for (let isUnfinished = false; ; this.lend()) {
+      const status = isUnfinished ? finish() : call();
+      isUnfinished ||= status === UNFINISHED;
+      if (status !== NO_MEMORY && status !== UNFINISHED) return status;
+    }
+  }
+}
+
+let workshop;
+const open = () => workshop ??= new Workshop();
+const forgotten = typeof FinalizationRegistry === 'undefined' ? undefined : new FinalizationRegistry(desk => workshop.clear(desk));
+
+/**
+ * A Delaunay triangulation of points that are numbered as they come, as arrays of numbers. It is kept in the module: points are inserted,
+ * moved and removed one by one. The module numbers vertices, of which the last one takes the place of one that is removed; here are tables
+ * from points to vertices and back. Of equal points the least number stands for all.
+ */
 export class Delaunay {
+  #desk;
+  #xs = [];
+  #kind;
+  #coords;
+  /** Of each point its vertex, or -1 once it was removed. */
+  #vertexOf = [];
+  /** Of each vertex its points, in ascending order. */
+  #pointsOf = [];
+  #triangles;
   #halfedges;
   #hull;
 
   constructor(coords) {
     if (!(Array.isArray(coords) || ArrayBuffer.isView(coords) && !(coords instanceof DataView))) {
-      throw new TypeError('coordinates are neither an array nor a typed array');
+      throw new TypeError('coords is neither an array nor a typed array');
     }
-    if (coords.length % 2) throw new RangeError('the last point has no second coordinate');
-    this.coords = coords.slice();
-    this.triangles = trianglesOf(this.coords);
+    if (coords.length % 2) throw new RangeError('coords: the last point has no second coordinate');
+    for (let at = 0; at < coords.length; at++) checkCoordinate(coords[at], `coords[${at}]`);
+    this.#kind = coords.constructor;
+    this.#coords = coords.slice();
+    this.#xs = Array.from(coords);
+    const shop = open();
+    this.#desk = shop.newDesk();
+    try {
+      shop.makeDelaunay(this.#desk);
+      this.#insertAll(shop);
+    } catch (error) {
+      shop.clear(this.#desk);
+      throw error;
+    }
+    forgotten?.register(this, this.#desk, this);
+  }
+
+  #insertAll(shop) {
+    const count = this.#xs.length / 2;
+    if (count === 0) return;
+    const given = shop.room(20 * count), told = given + 16 * count;
+    shop.array(BigInt64Array, given, 2 * count).set(BigInt64Array.from(this.#xs, BigInt));
+    const call = () => shop.call('insert_all', this.#desk, BigInt(given), BigInt(count), BigInt(told), BigInt(count));
+    const status = shop.insist(call, () => this.#finish(shop) || call());
+    if (status !== DONE) throw new RangeError(TOO_MANY);
+    this.#vertexOf = Array.from(shop.array(Uint32Array, told, count));
+    this.#vertexOf.forEach((vertex, point) => (this.#pointsOf[vertex] ??= []).push(point));
+  }
+
+  #shop() {
+    if (this.#desk === undefined) throw new TypeError('the triangulation was freed');
+    return workshop;
+  }
+
+  /** Does what was left undone for want of memory, and returns the status. */
+  #finish(shop) {
+    return shop.call('finish', this.#desk);
+  }
+
+  #change() {
+    this.#triangles = this.#halfedges = this.#hull = undefined;
+  }
+
+  /** The coordinates of all points, by number, those of removed ones too: an array of the kind that was given. */
+  get coords() {
+    const isBig = this.#kind === BigInt64Array || this.#kind === BigUint64Array;
+    return this.#coords ??= this.#kind === Array ? [...this.#xs] : this.#kind.from(this.#xs, isBig ? BigInt : Number);
+  }
+
+  /** The corners of all triangles, three numbers of points for each. */
+  get triangles() {
+    if (this.#triangles) return this.#triangles;
+    const shop = this.#shop(), needed = shop.cell(1);
+    let at, count = 2 * this.#pointsOf.length;
+    shop.insist(() => {
+      at = shop.room(12 * count);
+      return shop.call('list_triangles', this.#desk, BigInt(at), BigInt(count), BigInt(needed));
+    });
+    count = Number(shop.view().getBigUint64(needed, true));
+    const least = Uint32Array.from(this.#pointsOf, points => points[0]);
+    return this.#triangles = shop.array(Uint32Array, at, 3 * count).map(vertex => least[vertex]);
   }
 
   /** Of each side of a triangle the same side of the triangle across, or -1. */
   get halfedges() {
-    return this.#halfedges ??= sidesAcross(this.triangles, this.coords.length / 2);
+    return this.#halfedges ??= sidesAcross(this.triangles, this.#vertexOf.length);
   }
 
   /** The points of the convex hull, counterclockwise. */
   get hull() {
     return this.#hull ??= hullOf(this.triangles, this.halfedges);
   }
+
+  /** Inserts a point, and returns its number. */
+  insert(x, y) {
+    checkCoordinate(x, 'x');
+    checkCoordinate(y, 'y');
+    const point = this.#vertexOf.length;
+    this.#put(point, x, y);
+    return point;
+  }
+
+  /** Moves a point. */
+  move(point, x, y) {
+    this.#checkPoint(point);
+    checkCoordinate(x, 'x');
+    checkCoordinate(y, 'y');
+    this.#take(point);
+    this.#put(point, x, y);
+  }
+
+  /** Removes a point. The others keep their numbers. */
+  remove(point) {
+    this.#checkPoint(point);
+    this.#take(point);
+  }
+
+  /** The number of a point that no other one is nearer than, or -1 if there is none. Equal points have the least number. */
+  nearest(x, y) {
+    checkCoordinate(x, 'x');
+    checkCoordinate(y, 'y');
+    const shop = this.#shop(), told = shop.cell(1);
+    shop.call('nearest', this.#desk, BigInt(this.#pointAt(shop, x, y)), BigInt(told));
+    return this.#pointsOf[shop.view().getUint32(told, true)]?.[0] ?? -1;
+  }
+
+  /** Gives the memory back. Nothing can be asked of the triangulation afterwards. */
+  free() {
+    if (this.#desk === undefined) return;
+    forgotten?.unregister(this);
+    workshop.clear(this.#desk);
+    this.#desk = undefined;
+    this.#change();
+  }
+
+  #checkPoint(point) {
+    this.#shop();
+    if (!Number.isInteger(point) || !(this.#vertexOf[point] >= 0)) throw new RangeError(`point is ${String(point)}: there is none of this number`);
+  }
+
+  #pointAt(shop, x, y) {
+    const at = shop.cell(2);
+    shop.view().setBigInt64(at, BigInt(x), true);
+    shop.view().setBigInt64(at + 8, BigInt(y), true);
+    return at;
+  }
+
+  /** Has a point stand at these coordinates. */
+  #put(point, x, y) {
+    const shop = this.#shop(), told = shop.cell(1);
+    const call = () => shop.call('insert', this.#desk, BigInt(this.#pointAt(shop, x, y)), BigInt(told));
+    shop.view().setUint32(told, this.#pointsOf.length, true); // the new vertex, if memory runs out once it is there
+    if (shop.insist(call, () => this.#finish(shop)) !== DONE) throw new RangeError(TOO_MANY);
+    const vertex = shop.view().getUint32(told, true), points = this.#pointsOf[vertex] ??= [];
+    points.push(point);
+    points.sort((a, b) => a - b);
+    this.#vertexOf[point] = vertex;
+    [this.#xs[2 * point], this.#xs[2 * point + 1]] = [x, y];
+    this.#coords = undefined;
+    this.#change();
+  }
+
+  /** Takes a point away, and its vertex if no other point stands there. */
+  #take(point) {
+    const shop = this.#shop(), vertex = this.#vertexOf[point], points = this.#pointsOf[vertex];
+    if (points.length > 1) {
+      points.splice(points.indexOf(point), 1);
+    } else {
+      const told = shop.cell(1);
+      const call = () => shop.call('remove', this.#desk, vertex, BigInt(told));
+      if (shop.insist(call, () => this.#finish(shop)) !== DONE) throw new RangeError(TOO_MANY);
+      const last = this.#pointsOf.pop();
+      if (vertex < this.#pointsOf.length) {
+        this.#pointsOf[vertex] = last;
+        for (const it of last) this.#vertexOf[it] = vertex;
+      }
+    }
+    this.#vertexOf[point] = -1;
+    this.#change();
+  }
 }
 
 const OUTSIDE = 'a coordinate is no whole number from -2^53 to 2^53';
+const NO_MEMORY_LEFT = 'the mesh finds no memory', TOO_MANY = 'there are too many points';
+const up = length => Math.ceil(length / 16) * 16;
 const isCoordinate = number => Number.isInteger(number) && Math.abs(number) <= 2 ** 53;
 const isWide = number => typeof number === 'bigint' && number >= -(2n ** 53n) && number <= 2n ** 53n;
+
+/** Refuses what is no coordinate, by the name of the argument. */
+function checkCoordinate(value, name) {
+  if (!isCoordinate(value) && !isWide(value)) throw new RangeError(`${name} is ${String(value)}, no whole number from -2^53 to 2^53`);
+}
 
 /** The corners of all triangles, three numbers for each. */
 function trianglesOf(coordinates) {
@@ -113,7 +388,7 @@ function call(name, { isShort = () => false, ...asked }) {
     const { status, answer } = callWithRoom(name, asked, heap);
     if (status === OUT_OF_RANGE) throw new RangeError('a coordinate is below -2^53 or above 2^53');
     if (status !== NO_MEMORY && (heap >= LARGEST_HEAP || !isShort(answer))) return answer;
-    if (heap >= LARGEST_HEAP) throw new RangeError('the mesh finds no memory');
+    if (heap >= LARGEST_HEAP) throw new RangeError(NO_MEMORY_LEFT);
   }
 }
 
@@ -130,7 +405,6 @@ function callWithRoom(name, { room = 2 ** 20, ...asked }, heap) {
 function callOnce(name, { given, givenSize = 1, flags = [], size = 1 }, heap, room) {
   compiled ??= compile();
   const { memory, ...exports } = new WebAssembly.Instance(compiled).exports;
-  const up = length => Math.ceil(length / 16) * 16;
   const before = 32 + up(given.byteLength) + up(room * size);
   const base = grown(memory, Math.ceil((before + heap) / PAGE));
   const givenAt = base + 32, answerAt = givenAt + up(given.byteLength);

@@ -1,6 +1,6 @@
 /* What crates/mesh_page exports, as C sees it; in the WebAssembly module each pointer and size has 64
-   bits, and a struct by value is passed as a pointer to it. It keeps nothing, and never gives back the
-   memory that a call is lent. Programs in C want dcel.h instead. */
+   bits, and a struct by value is passed as a pointer to it. It never gives back the memory that it is
+   lent. Programs in C want dcel.h instead. */
 #ifndef MESH_PAGE_H
 #define MESH_PAGE_H
 
@@ -12,12 +12,16 @@
 extern "C" {
 #endif
 
-/* What a call returns. Only with the first two does it put anything into the buffer. */
+/* What a call returns. Only with the first two does it put anything into a buffer for an answer. */
 enum {
-    MESH_PAGE_DONE = 0,         /* all of the answer is in the buffer */
-    MESH_PAGE_SHORT = 1,        /* the buffer has as much of the answer as it holds */
-    MESH_PAGE_NO_MEMORY = 2,    /* the memory lent was too small, or points are too many; *needed is 0 */
-    MESH_PAGE_OUT_OF_RANGE = 3, /* a coordinate is below -2^53 or above 2^53, and *needed is 0 */
+    MESH_PAGE_DONE = 0,           /* all of the answer is in the buffer */
+    MESH_PAGE_SHORT = 1,          /* the buffer has as much of the answer as it holds */
+    MESH_PAGE_NO_MEMORY = 2,      /* the memory lent was too small, or points are too many; *needed is 0 */
+    MESH_PAGE_OUT_OF_RANGE = 3,   /* a coordinate is below -2^53 or above 2^53, and *needed is 0 */
+    MESH_PAGE_NOT_KEPT = 4,       /* no such thing is kept: none was made, or it was freed */
+    MESH_PAGE_UNFINISHED = 5,     /* the triangulation isn't whole, for want of memory: lend some, and finish */
+    MESH_PAGE_NO_SUCH_VERTEX = 6, /* no vertex has the number */
+    MESH_PAGE_NO_ROOM = 7,        /* there are no numbers for so many elements */
 };
 
 /* Memory lent for good: a multiple of 16 bytes from an address that is one too, which nothing else
@@ -37,9 +41,17 @@ typedef struct {
     uint32_t first, second, third;
 } mesh_page_triangle;
 
-/* Each call puts its answer into a buffer and tells how many items the whole of it has. Behind what was
-   put there the buffer stays as it was. Pointers aren't null, also where a length is 0, and lead to
-   memory that the others don't overlap. */
+/* A desk, on which a thing is kept across calls, or none. All zero is none. Hand it to each call as the
+   last one left it, and use one of two copies alone. */
+typedef struct {
+    void *at;
+    bool is_open;
+} mesh_page_kept;
+
+/* Pointers aren't null, also where a length is 0, and lead to memory that the others don't overlap. */
+
+/* These keep nothing. Each puts its answer into a buffer and tells how many items the whole of it has.
+   Behind what was put there the buffer stays as it was. */
 
 /* The replies to the lines, on an empty mesh. */
 uint32_t mesh_page_replies(mesh_page_memory memory, const uint8_t *lines, size_t lines_len,
@@ -52,6 +64,38 @@ uint32_t mesh_page_picture(mesh_page_memory memory, const uint8_t *lines, size_t
 /* The triangles of the points. */
 uint32_t mesh_page_triangles(mesh_page_memory memory, const mesh_page_point *points, size_t points_len,
                              mesh_page_triangle *triangles, size_t triangles_len, uint64_t *needed);
+
+/* Lends memory: to the heap of the desk if it is open, and else a heap is made in it, with the desk. */
+uint32_t mesh_page_lend(mesh_page_kept *kept, mesh_page_memory memory);
+
+/* Frees what is on the desk, which stays for what is made next. */
+void mesh_page_free(mesh_page_kept *kept);
+
+/* Makes a Delaunay triangulation of no points on a desk, in the heap of another one. */
+uint32_t mesh_page_delaunay(mesh_page_kept *from, mesh_page_kept *kept);
+
+/* Inserts a point, and tells its vertex: a new one, the last, or the one that is there already. With
+   UNFINISHED the vertex is there, but isn't told. */
+uint32_t mesh_page_insert(mesh_page_kept *kept, mesh_page_point point, uint32_t *vertex);
+
+/* Inserts points, and puts the vertex of each into the buffer. Where memory lacks, those that were
+   inserted so far stay. */
+uint32_t mesh_page_insert_all(mesh_page_kept *kept, const mesh_page_point *points, size_t points_len,
+                              uint32_t *vertices, size_t vertices_len);
+
+/* Removes a vertex. The last vertex gets its number, and `moved` is the number that this had before, or
+   2^64 - 1. With UNFINISHED the vertex is gone, too. */
+uint32_t mesh_page_remove(mesh_page_kept *kept, uint32_t vertex, uint64_t *moved);
+
+/* Does what was left undone for want of memory. */
+uint32_t mesh_page_finish(mesh_page_kept *kept);
+
+/* The corners of all triangles, by their vertices. */
+uint32_t mesh_page_list_triangles(mesh_page_kept *kept, mesh_page_triangle *triangles, size_t triangles_len,
+                                  uint64_t *needed);
+
+/* Tells a vertex that no other one is nearer to a point than, or 2^32 - 1 if there is no vertex. */
+uint32_t mesh_page_nearest(mesh_page_kept *kept, mesh_page_point point, uint32_t *vertex);
 
 #ifdef __cplusplus
 }

@@ -1,6 +1,7 @@
 /* Calls each export of crates/mesh_page with memory of every size up to what it needs, and with a buffer
    of every size up to what the answer has. Behind the memory, and behind the buffer, stands a page that
-   can't be written: who writes past an end is stopped by the machine. */
+   can't be written: who writes past an end is stopped by the machine. A triangulation that is kept gets
+   more memory after each size that was too small, and has to end as one that had enough. */
 #define _DEFAULT_SOURCE
 #include "mesh_page.h"
 
@@ -57,7 +58,7 @@ static bool is_filled(const uint8_t *from, const uint8_t *to) {
     return true;
 }
 
-static guarded lent, buffer;
+static guarded lent, more, buffer;
 
 /* What a call answered. */
 typedef struct {
@@ -183,13 +184,82 @@ static void check_answers(void) {
     }
 }
 
+static bool is_one_of(mesh_page_triangle it, const mesh_page_triangle *list, size_t count) {
+    mesh_page_triangle turned = {it.second, it.third, it.first}, again = {it.third, it.first, it.second};
+    for (size_t i = 0; i < count; i++)
+        if (memcmp(&it, &list[i], sizeof it) == 0 || memcmp(&turned, &list[i], sizeof it) == 0 || memcmp(&again, &list[i], sizeof it) == 0)
+            return true;
+    return false;
+}
+
+/* What is kept of these points has the triangles of a call that keeps nothing, by the vertices told. */
+static void check_triangles(mesh_page_kept *kept, const uint32_t *vertices, size_t size) {
+    mesh_page_memory memory = {last(lent, ENOUGH), ENOUGH};
+    mesh_page_triangle wanted[2 * COUNT(POINTS)], *found = (mesh_page_triangle *)last(buffer, 2 * COUNT(POINTS) * sizeof *found);
+    uint64_t needed, count;
+    must(mesh_page_triangles(memory, POINTS, COUNT(POINTS), wanted, COUNT(wanted), &count) == MESH_PAGE_DONE, "triangles", "there are none", size);
+    must(mesh_page_list_triangles(kept, found, count - 1, &needed) == MESH_PAGE_SHORT && needed == count, "list_triangles", "the buffer isn't short", size);
+    must(mesh_page_list_triangles(kept, found, count, &needed) == MESH_PAGE_DONE && needed == count, "list_triangles", "they aren't as many", size);
+    for (size_t i = 0; i < count; i++) {
+        mesh_page_triangle named = {vertices[wanted[i].first], vertices[wanted[i].second], vertices[wanted[i].third]};
+        must(is_one_of(named, found, count), "list_triangles", "one lacks", size);
+    }
+}
+
+/* With all its points removed one by one it is as one that was made, and freed it is kept no longer. */
+static void check_removed(mesh_page_kept *kept, size_t size) {
+    const mesh_page_point origin = {0, 0}, far = {(int64_t)1 << 54, 0};
+    uint32_t vertex = 9, left = COUNT(POINTS) - 1; /* two of the points are equal */
+    uint64_t moved, needed;
+    must(mesh_page_nearest(kept, origin, &vertex) == MESH_PAGE_DONE && vertex < left, "nearest", "it has none", size);
+    must(mesh_page_nearest(kept, far, &vertex) == MESH_PAGE_OUT_OF_RANGE && mesh_page_insert(kept, far, &vertex) == MESH_PAGE_OUT_OF_RANGE, "nearest", "the range is wrong", size);
+    must(mesh_page_remove(kept, left, &moved) == MESH_PAGE_NO_SUCH_VERTEX, "remove", "there is one more", size);
+    for (; left > 0; left--)
+        must(mesh_page_remove(kept, 0, &moved) == MESH_PAGE_DONE && moved == (left > 1 ? left - 1 : UINT64_MAX), "remove", "another vertex moves", left);
+    must(mesh_page_nearest(kept, origin, &vertex) == MESH_PAGE_DONE && vertex == UINT32_MAX, "nearest", "one is left", size);
+    must(mesh_page_insert(kept, origin, &vertex) == MESH_PAGE_DONE && vertex == 0, "insert", "it isn't the first", size);
+    mesh_page_free(kept);
+    must(mesh_page_finish(kept) == MESH_PAGE_NOT_KEPT && mesh_page_insert(kept, origin, &vertex) == MESH_PAGE_NOT_KEPT, "free", "it is still kept", size);
+    must(mesh_page_list_triangles(kept, NULL, 0, &needed) == MESH_PAGE_NOT_KEPT && needed == 0, "free", "it has triangles", size);
+}
+
+/* A triangulation that is kept, with memory of every size: what lacked is done once there is more. */
+static void check_kept(void) {
+    size_t size = 0;
+    for (bool is_enough = false; !is_enough; size += 16) {
+        must(size < ENOUGH, "kept", "no memory suffices", size);
+        mesh_page_kept root = {NULL, false}, kept = {NULL, false};
+        mesh_page_memory memory = {last(lent, size), size}, further = {last(more, ENOUGH), ENOUGH};
+        uint32_t vertices[COUNT(POINTS)], status = mesh_page_lend(&root, memory);
+        must(status == (root.is_open ? MESH_PAGE_DONE : MESH_PAGE_NO_MEMORY), "lend", "the status is wrong", size);
+        if (!root.is_open)
+            continue;
+        status = mesh_page_delaunay(&root, &kept);
+        if (status == MESH_PAGE_DONE)
+            status = mesh_page_insert_all(&kept, POINTS, COUNT(POINTS), vertices, COUNT(vertices));
+        is_enough = status == MESH_PAGE_DONE;
+        must(is_enough || status == MESH_PAGE_NO_MEMORY || status == MESH_PAGE_UNFINISHED, "insert_all", "the status is wrong", size);
+        must(mesh_page_lend(&root, further) == MESH_PAGE_DONE, "lend", "it isn't taken", size);
+        must(kept.is_open || mesh_page_delaunay(&root, &kept) == MESH_PAGE_DONE, "delaunay", "it isn't made", size);
+        must(mesh_page_finish(&kept) == MESH_PAGE_DONE, "finish", "it isn't whole", size);
+        must(mesh_page_insert_all(&kept, POINTS, COUNT(POINTS), vertices, COUNT(vertices) - 1) == MESH_PAGE_SHORT, "insert_all", "the buffer isn't short", size);
+        must(mesh_page_insert_all(&kept, POINTS, COUNT(POINTS), vertices, COUNT(vertices)) == MESH_PAGE_DONE, "insert_all", "it isn't done", size);
+        check_triangles(&kept, vertices, size);
+        check_removed(&kept, size);
+        must(mesh_page_delaunay(&root, &kept) == MESH_PAGE_DONE, "delaunay", "its desk isn't used again", size);
+    }
+    printf("kept: with %zu bytes\n", size - 16);
+}
+
 int main(void) {
     lent = guard(ENOUGH);
+    more = guard(ENOUGH);
     buffer = guard(ROOM);
     for (size_t i = 0; i < COUNT(EXPORTS); i++)
         check(&EXPORTS[i]);
     check_range();
     check_answers();
+    check_kept();
     printf("%d checks\n", calls);
     return EXIT_SUCCESS;
 }

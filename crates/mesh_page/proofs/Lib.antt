@@ -1,1 +1,4 @@
+pub mod Holding
+mod Places
 mod Read
+mod WholeListed

@@ -1,1 +1,7 @@
+pub mod Changing
 pub mod Given
+pub mod Held
+pub mod Keeping
+pub mod Lending
+pub mod Listing
+pub mod Statuses

@@ -9,7 +9,7 @@ use dcel_exports::status::NO_MEMORY;
 use dcel_replay::{Replay, Wrong};
 use dcel_svg::{Picture, Style, spread, write_svg};
 use dcel_text::lines::split_line;
-use lent_bump::{Arena, Memory};
+use lent_heap::{Heap, Memory};
 use std::alloc::{AllocError, Allocator};
 use std::io;
 
@@ -34,8 +34,8 @@ pub extern "C" fn mesh_page_picture(
     ensures no_memory { result ≡ 2 → (svg.new ≡ svg.old) × (needed.new ≡ 0) }
     ensures no_other { result ≤ 2 }
 {
-    let arena = Arena::new(memory);
-    let Ok(text) = drawn(&arena, lines, Style::HalfEdges { anchors }) else {
+    let heap = Heap::new(memory);
+    let Ok(text) = drawn(&heap, lines, Style::HalfEdges { anchors }) else {
         *needed = 0;
         return NO_MEMORY;
     };

@@ -51,7 +51,7 @@ pub(crate) fn read_points<A: Allocator>(
 }
 
 /// Returns the point with the same coordinates, or `None` if one is out of range.
-fn point_of(given: MeshPagePoint) -> Option<Point>
+pub(crate) fn point_of(given: MeshPagePoint) -> Option<Point>
     ensures x { IfSome result (λ p. p.x ≡ given.x) }
     ensures y { IfSome result (λ p. p.y ≡ given.y) }
     ensures far { IfNone result (IsFar given) }

@@ -4,7 +4,7 @@ ghost use Rattle.std.specs.Prelude.{◌≡◌, ◌≢◌, ◌≤◌, ◌<◌, le
 ghost use Rattle.dcel_exports.specs.Answers.{HasReplies};
 
 use dcel_exports::put_replies;
-use lent_bump::{Arena, Memory};
+use lent_heap::{Heap, Memory};
 
 /// Answers the lines on an empty mesh, and puts the replies into `replies`.
 ///
@@ -26,6 +26,6 @@ pub extern "C" fn mesh_page_replies(
     ensures no_memory { result ≡ 2 → (replies.new ≡ replies.old) × (needed.new ≡ 0) }
     ensures no_other { result ≤ 2 }
 {
-    let arena = Arena::new(memory);
-    put_replies(&arena, lines, replies, needed)
+    let heap = Heap::new(memory);
+    put_replies(&heap, lines, replies, needed)
 }

@@ -7,14 +7,11 @@ ghost use Rattle.dcel_delaunay.specs.Triangles.{AreDelaunayTriangles};
 ghost use Rattle.mesh_page.specs.Given.{AreRead, HasFar};
 
 use crate::points::{Failed, MeshPagePoint, read_points};
+use crate::status::{NO_MEMORY, OUT_OF_RANGE};
 use dcel_delaunay::{Triangle, triangulate};
 use dcel_exports::put;
-use dcel_exports::status::NO_MEMORY;
-use lent_bump::{Arena, Memory};
+use lent_heap::{Heap, Memory};
 use std::alloc::Allocator;
-
-/// A coordinate is out of range.
-const OUT_OF_RANGE: u32 = 3;
 
 /// Puts the triangles of a Delaunay triangulation of the points into `triangles`, each as the
 /// numbers of its corners, counterclockwise. Equal points are one, under the least of their numbers.
@@ -39,8 +36,8 @@ pub extern "C" fn mesh_page_triangles(
     ensures out_of_range { result ≡ 3 → HasFar points.now }
     ensures no_other { result ≤ 3 }
 {
-    let arena = Arena::new(memory);
-    match triangles_of(&arena, points) {
+    let heap = Heap::new(memory);
+    match triangles_of(&heap, points) {
         Ok(list) => put(&list, triangles, needed),
         Err(Failed::NoMemory) => {
             *needed = 0;

@@ -27,7 +27,7 @@ PAGE = Library("bindings/c/mesh_page.h", "bindings/c/page.c", ("mesh_page",))
 LIBRARIES = (DCEL, PAGE)
 # Structs that exports take from crates below, with the crate of each and its name in C.
 FROM_BELOW = {
-    "mesh_page": {"Memory": ("lent_bump", "mesh_page_memory"), "Triangle": ("dcel_delaunay", "mesh_page_triangle")},
+    "mesh_page": {"Memory": ("lent_heap", "mesh_page_memory"), "Triangle": ("dcel_delaunay", "mesh_page_triangle")},
     "delaunay_c": {
         "DcelTriangulation": ("dcel_triangulations", "dcel_triangulation"),
         "DcelConstrained": ("dcel_triangulations", "dcel_constrained"),
@@ -47,7 +47,7 @@ SAME = re.compile(r"ensures same \{ (?:\w+\.)?kept_in (\w+)\.new ≡ (?:\w+\.)?k
 STRUCT = re.compile(r"#\[repr\(C\)\][^{;]*?pub struct (\w+) \{(.*?)\n\}", re.S)
 FIELD = re.compile(r"^\s*(?:pub(?:\(crate\))? )?(\w+): ([^,]+),", re.M)
 # What C sees of a struct that owns what is kept: the pointer of `Held`, whose allocator takes no bytes, and the flag.
-KEPT = ("DcelMesh", "DcelTriangulation", "DcelConstrained")
+KEPT = ("DcelMesh", "DcelTriangulation", "DcelConstrained", "MeshPageKept")
 HELD = (Named("at", Type("void", True)), Named("is_open", Type("bool")))
 
 

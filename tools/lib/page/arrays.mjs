@@ -46,7 +46,7 @@ function hullFault(points, hull) {
 }
 
 /** What is wrong with the arrays of a triangulation of these points. */
-function fault(points, { triangles, halfedges, hull }) {
+export function fault(points, { triangles, halfedges, hull }) {
   if (!(triangles instanceof Uint32Array && halfedges instanceof Int32Array && hull instanceof Uint32Array)) return 'an array has another type';
   const corners = Array.from({ length: triangles.length / 3 }, (_, at) => [0, 1, 2].map(corner => points[triangles[3 * at + corner]]));
   if (corners.some(([a, b, c]) => turn(a, b, c) <= 0)) return 'a triangle goes clockwise';

@@ -5,6 +5,7 @@ import { resolve } from 'node:path';
 import { pathToFileURL } from 'node:url';
 import { arrayFaults } from './arrays.mjs';
 import { bufferFaults } from './buffers.mjs';
+import { keepingFaults } from './keeping.mjs';
 
 const ROOT = resolve(new URL('../../..', import.meta.url).pathname);
 const folder = resolve(process.argv[2]);
@@ -107,7 +108,8 @@ compareLarge();
 compareRanges();
 const arrays = arrayFaults(Delaunay, faults);
 const calls = bufferFaults(readFileSync(`${folder}/mesh.wasm`), faults);
-const all = { ...counts, 'triangulations as arrays': arrays, 'calls with a short buffer or little memory': calls };
+const kept = keepingFaults(Delaunay, faults);
+const all = { ...counts, 'triangulations as arrays': arrays, ...kept, 'calls with a short buffer or little memory': calls };
 for (const [name, count] of Object.entries(all)) if (!count) faults.push(`there were no ${name} to try`);
 const told = Object.entries(all).map(([name, count]) => `${count} ${name}`);
 console.log([...faults, `module in Node ${process.version}: ${told.join(', ')}, ${faults.length} faults`].join('\n'));

@@ -1,7 +1,6 @@
 use Rattle.std.proofs.Common.{◌≡◌, ◌≤◌, ◌-◌, length, map, take}
 use Rattle.dcel_predicates.specs.declared.point.Point.{Point}
 use Rattle.mesh_page.specs.declared.points.MeshPagePoint.{MeshPagePoint}
-use Rattle.mesh_page.specs.Given.{AreRead}
 use Rattle.mesh_page.proofs.points.read_points.Given as goal
 
 -- the first points were read

@@ -1,0 +1,48 @@
+-- What calls find on a desk, and what they leave there.
+use Rattle.dcel_delaunay.specs.declared.triangulation.Triangulation.{Triangulation}
+use Rattle.dcel_planar.specs.Outcomes.{IsWholeMesh}
+use Rattle.lent_heap.specs.declared.heap.Heap.{Heap}
+use Rattle.mesh_page.specs.Held.{Kept}
+use Rattle.mesh_page.specs.declared.desk.Thing.{Thing}
+use Rattle.mesh_page.specs.declared.desk.Thing.TheVariants.{Delaunay, Nothing}
+use Rattle.mesh_page.specs.declared.holder.MeshPageKept.{MeshPageKept}
+use Rattle.std.specs.Prelude.{Option, None, Some, IsSome}
+use denote.Ref.{Bor}
+
+-- a triangulation in a heap of lent memory, as contracts see it
+abbrev pub State : Type 0
+State = Triangulation (Bor Heap)
+
+-- nothing in it is left undone
+abbrev pub IsWhole : State → Type 0
+IsWhole t = IsWholeMesh t.planar
+
+-- there is a desk
+abbrev pub IsOpen : MeshPageKept → Type 0
+IsOpen k = IsSome k.held.kept
+
+abbrev pub on_desk : Kept → Thing
+on_desk None = Nothing
+on_desk (Some desk) = desk.thing
+
+-- what is on the desk, nothing if there is none
+abbrev pub thing_in : MeshPageKept → Thing
+thing_in k = on_desk k.held.kept
+
+abbrev pub as_delaunay : Thing → Option State
+as_delaunay Nothing = None
+as_delaunay (Delaunay t) = Some t
+
+-- the Delaunay triangulation on the desk
+abbrev pub delaunay_in : MeshPageKept → Option State
+delaunay_in k = as_delaunay (thing_in k)
+
+-- there is one, and this is so of it
+abbrev pub IsSo : {T : Type 0} → (T → Type 0) → Option T → Type 0
+IsSo holds None = ⊥
+IsSo holds (Some t) = holds t
+
+-- there was one and there is one, and this is so of both
+abbrev pub AreSo : {S T : Type 0} → (S → T → Type 0) → Option S → Option T → Type 0
+AreSo holds None new = ⊥
+AreSo holds (Some old) new = IsSo (holds old) new

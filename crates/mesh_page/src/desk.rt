@@ -1,0 +1,25 @@
+//! What is kept across calls, and the heap that it is in.
+
+use dcel_delaunay::Triangulation;
+use lent_heap::Heap;
+
+/// A Delaunay triangulation in memory of the host.
+pub type Points = Triangulation<&'static Heap>;
+
+/// What is kept.
+#[derive(Drop)]
+pub enum Thing {
+    /// Nothing: it was freed.
+    Nothing,
+    /// A Delaunay triangulation.
+    Delaunay(Points),
+}
+
+/// What is kept, and the heap that it is in.
+///
+/// A desk stays where it is, and is used again once what is on it is freed.
+#[derive(Drop)]
+pub struct Desk {
+    pub(crate) heap: &'static Heap,
+    pub(crate) thing: Thing,
+}
