@@ -31,7 +31,7 @@ export type Coordinates = readonly (number | bigint)[] | Float64Array | Float32A
  *
  * Each call throws a RangeError if a coordinate isn't a whole number from -2^53 to 2^53, no point has the number, or no memory is left, and
  * its message begins with the argument; a TypeError if `coords` is no array, or the triangulation was freed. A call that throws changes
- * nothing, except that a point that finds no memory while it is moved is gone.
+ * nothing, except where memory ends: then a point may be inserted or removed all the same, and one that is moved may be gone.
  */
 export class Delaunay<C extends Coordinates = Coordinates> {
   constructor(coords: C);

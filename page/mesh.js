@@ -127,12 +127,13 @@ class Workshop {
     this.insist(() => this.#exports.mesh_page_delaunay(BigInt(this.#first), BigInt(desk)));
   }
 
-  /** Calls, and lends more memory as long as there is too little: what a call has left undone, `finish` does. */
-  insist(call, finish) {
+  /** Calls, and lends more memory as long as there is too little. What a call has left undone is told, and `finish` does it. */
+  insist(call, finish, tell = () => {}) {
     for (let isUnfinished = false; ; this.lend()) {
       const status = isUnfinished ? finish() : call();
-      isUnfinished ||= status === UNFINISHED;
       if (status !== NO_MEMORY && status !== UNFINISHED) return status;
+      if (status === UNFINISHED && !isUnfinished) tell();
+      isUnfinished ||= status === UNFINISHED;
     }
   }
 }
@@ -155,6 +156,8 @@ export class Delaunay {
   #vertexOf = [];
   /** Of each vertex its points, in ascending order. */
   #pointsOf = [];
+  /** Whether nothing is left undone for want of memory. */
+  #isWhole = true;
   #triangles;
   #halfedges;
   #hull;
@@ -202,6 +205,30 @@ export class Delaunay {
     return shop.call('finish', this.#desk);
   }
 
+  /** The workshop, once nothing is left undone. */
+  #whole() {
+    const shop = this.#shop();
+    if (!this.#isWhole) shop.insist(() => this.#finish(shop));
+    this.#isWhole = true;
+    return shop;
+  }
+
+  /** Calls, and notes once what was changed, also where memory ends before all is done that belongs to it. */
+  #carryOut(shop, call, note) {
+    let isNoted = false;
+    const noteOnce = () => {
+      if (!isNoted) note();
+      isNoted = true;
+    };
+    const status = shop.insist(call, () => this.#finish(shop), () => {
+      this.#isWhole = false;
+      noteOnce();
+    });
+    if (status !== DONE) throw new RangeError(TOO_MANY);
+    this.#isWhole = true;
+    noteOnce();
+  }
+
   #change() {
     this.#triangles = this.#halfedges = this.#hull = undefined;
   }
@@ -215,7 +242,7 @@ export class Delaunay {
   /** The corners of all triangles, three numbers of points for each. */
   get triangles() {
     if (this.#triangles) return this.#triangles;
-    const shop = this.#shop(), needed = shop.cell(1);
+    const shop = this.#whole(), needed = shop.cell(1);
     let at, count = 2 * this.#pointsOf.length;
     shop.insist(() => {
       at = shop.room(12 * count);
@@ -264,7 +291,7 @@ export class Delaunay {
   nearest(x, y) {
     checkCoordinate(x, 'x');
     checkCoordinate(y, 'y');
-    const shop = this.#shop(), told = shop.cell(1);
+    const shop = this.#whole(), told = shop.cell(1);
     shop.call('nearest', this.#desk, BigInt(this.#pointAt(shop, x, y)), BigInt(told));
     return this.#pointsOf[shop.view().getUint32(told, true)]?.[0] ?? -1;
   }
@@ -292,36 +319,39 @@ export class Delaunay {
 
   /** Has a point stand at these coordinates. */
   #put(point, x, y) {
-    const shop = this.#shop(), told = shop.cell(1);
-    const call = () => shop.call('insert', this.#desk, BigInt(this.#pointAt(shop, x, y)), BigInt(told));
+    const shop = this.#whole(), told = shop.cell(1);
     shop.view().setUint32(told, this.#pointsOf.length, true); // the new vertex, if memory runs out once it is there
-    if (shop.insist(call, () => this.#finish(shop)) !== DONE) throw new RangeError(TOO_MANY);
-    const vertex = shop.view().getUint32(told, true), points = this.#pointsOf[vertex] ??= [];
-    points.push(point);
-    points.sort((a, b) => a - b);
-    this.#vertexOf[point] = vertex;
-    [this.#xs[2 * point], this.#xs[2 * point + 1]] = [x, y];
-    this.#coords = undefined;
-    this.#change();
+    this.#carryOut(shop, () => shop.call('insert', this.#desk, BigInt(this.#pointAt(shop, x, y)), BigInt(told)), () => {
+      const vertex = shop.view().getUint32(told, true), points = this.#pointsOf[vertex] ??= [];
+      points.push(point);
+      points.sort((a, b) => a - b);
+      this.#vertexOf[point] = vertex;
+      [this.#xs[2 * point], this.#xs[2 * point + 1]] = [x, y];
+      this.#coords = undefined;
+      this.#change();
+    });
   }
 
   /** Takes a point away, and its vertex if no other point stands there. */
   #take(point) {
-    const shop = this.#shop(), vertex = this.#vertexOf[point], points = this.#pointsOf[vertex];
+    const shop = this.#whole(), told = shop.cell(1), vertex = this.#vertexOf[point], points = this.#pointsOf[vertex];
+    const note = () => {
+      this.#vertexOf[point] = -1;
+      this.#change();
+    };
     if (points.length > 1) {
       points.splice(points.indexOf(point), 1);
-    } else {
-      const told = shop.cell(1);
-      const call = () => shop.call('remove', this.#desk, vertex, BigInt(told));
-      if (shop.insist(call, () => this.#finish(shop)) !== DONE) throw new RangeError(TOO_MANY);
+      note();
+      return;
+    }
+    this.#carryOut(shop, () => shop.call('remove', this.#desk, vertex, BigInt(told)), () => {
       const last = this.#pointsOf.pop();
       if (vertex < this.#pointsOf.length) {
         this.#pointsOf[vertex] = last;
         for (const it of last) this.#vertexOf[it] = vertex;
       }
-    }
-    this.#vertexOf[point] = -1;
-    this.#change();
+      note();
+    });
   }
 }
 

@@ -14,7 +14,7 @@ class Mirror {
   }
 
   numbers() {
-    return [...this.points.keys()].filter(at => this.points[at]);
+    return Object.keys(this.points).map(Number).filter(at => this.points[at]);
   }
 
   /** The arrays have the numbers of points that may be removed, so they are numbered anew for the test. */
@@ -97,6 +97,52 @@ function memoryFaults(Delaunay, faults) {
   return 60;
 }
 
+/** Where the engine refuses memory a call throws, and what is kept is right as soon as there is some again. */
+function refusedMemoryFaults(Delaunay, faults) {
+  const { grow } = WebAssembly.Memory.prototype;
+  let refusals = 0;
+  const isDone = call => {
+    try {
+      call();
+      return true;
+    } catch (error) {
+      if (!(error instanceof RangeError && /memory/.test(error.message))) faults.push(`of no memory: ${error}`);
+      refusals++;
+      return false;
+    }
+  };
+  for (let times = 0; times < 5; times++) {
+    const { made } = new Mirror(Delaunay, [0, 0, 9, 0, 0, 9]), others = [];
+    WebAssembly.Memory.prototype.grow = () => {
+      throw new RangeError('refused');
+    };
+    for (let size = 2 ** 18; size > 1; size >>= 1) {
+      while (isDone(() => others.push(new Delaunay(Int32Array.from({ length: size }, () => random(2 ** 20)))))) ;
+    }
+    for (let count = 0; count < 300 && isDone(() => made.insert(random(2000), random(2000))); count++) ;
+    isDone(() => made.triangles);
+    isDone(() => made.remove(times % 3));
+    WebAssembly.Memory.prototype.grow = grow;
+    for (const other of others) other.free();
+    const kept = [...Array(made.coords.length / 2).keys()].filter(point => isKept(made, point));
+    const mirror = Object.assign(Object.create(Mirror.prototype), { made, points: [] });
+    for (const point of kept) mirror.points[point] = [made.coords[2 * point], made.coords[2 * point + 1]];
+    if (mirror.fault()) faults.push(`after refused memory: ${mirror.fault()}`);
+    made.free();
+  }
+  return refusals;
+}
+
+/** Whether a point wasn't removed: it can be moved to where it is. */
+function isKept(made, point) {
+  try {
+    made.move(point, made.coords[2 * point], made.coords[2 * point + 1]);
+    return true;
+  } catch {
+    return false;
+  }
+}
+
 /** Adds to the faults, and returns how many triangulations and calls were looked at. */
 export function keepingFaults(Delaunay, faults) {
   let checked = 0;
@@ -113,5 +159,6 @@ export function keepingFaults(Delaunay, faults) {
     }
     if (set % 2) mirror.made.free();
   }
-  return { 'calls of triangulations that are kept': checked, 'refusals of theirs': refusalFaults(Delaunay, faults), 'triangulations freed': memoryFaults(Delaunay, faults) };
+  return { 'calls of triangulations that are kept': checked, 'refusals of theirs': refusalFaults(Delaunay, faults), 'triangulations freed': memoryFaults(Delaunay, faults),
+    'calls without memory': refusedMemoryFaults(Delaunay, faults) };
 }
