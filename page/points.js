@@ -1,10 +1,13 @@
 // The tab of points: they are set and moved, and their Delaunay triangulation is drawn.
 
-import { triangulate } from './mesh.js';
+import { Delaunay } from './mesh.js';
 import { at, undoBy } from './elements.js';
 
 const WIDTH = 1000, HEIGHT = 700, MARGIN = 10;
 const STEPS = { ArrowLeft: [-1, 0], ArrowRight: [1, 0], ArrowUp: [0, -1], ArrowDown: [0, 1] };
+
+/** As many points that were moved or added are moved or added in the triangulation that is kept; with more it is made anew. */
+const FEW = 20;
 
 /** How near to a point it is taken, in pixels, by a mouse and by a finger. */
 const NEAR = { mouse: 16, touch: 26 };
@@ -14,6 +17,7 @@ const upright = matchMedia('(max-width: 50rem) and (orientation: portrait)');
 
 const plane = at('plane');
 let points = [], chosen = null, isWaiting = false, changed = () => {};
+let made, held = []; // the triangulation, and the points that it has
 let settled = [], past = []; // as the points were at the last change, and before each
 
 export const allPoints = () => points;
@@ -63,11 +67,28 @@ function settle() {
   changed();
 }
 
+/** The triangles of the points that there are now. */
+function trianglesNow() {
+  const other = [...points.keys()].filter(number => points[number] !== held[number]);
+  if (made && points.length >= held.length && other.length <= FEW) {
+    for (const number of other) {
+      if (number < held.length) made.move(number, ...points[number]);
+      else made.insert(...points[number]);
+    }
+  } else {
+    made?.free();
+    made = new Delaunay(points.flat());
+  }
+  held = points.slice();
+  const { triangles } = made;
+  return Array.from({ length: triangles.length / 3 }, (_, at) => [...triangles.subarray(3 * at, 3 * at + 3)]);
+}
+
 /** Draws the triangulation. */
 function draw() {
   isWaiting = false;
   const start = performance.now();
-  const triangles = triangulate(points);
+  const triangles = trianglesNow();
   const time = performance.now() - start;
   const way = corners => `M${corners.map(number => points[number].join(' ')).join('L')}z`;
   at('triangles').setAttribute('d', triangles.map(way).join(''));
