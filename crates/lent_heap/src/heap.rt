@@ -17,8 +17,8 @@ const SIZES: usize = 64;
 
 /// An allocator for collections, each of which holds a `&` to it.
 ///
-/// The size of a block is a power of two, at least 16, and so is the alignment. A block comes from
-/// those of its size that were given back, or from the front of the memory that was never handed
+/// The size of a block is a power of two from 16 on, and its address a multiple of 16. A block comes
+/// from those of its size that were given back, or from the front of the memory that was never handed
 /// out. A request for an alignment above 16, or for more than is left there, finds no memory.
 pub struct Heap {
     rest: Cell<Option<Memory>>,
