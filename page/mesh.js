@@ -64,10 +64,15 @@ class Workshop {
     }
   }
 
-  /** Lends the heap as much again as it has. */
+  /** Lends the heap as much again as it has, or less where the engine has less. */
   lend() {
-    const size = Math.max(LEAST_LENT, this.#lent);
-    this.#lendThis(this.#grown(size), size);
+    for (let size = Math.max(LEAST_LENT, this.#lent); ; size = up(size / 2)) {
+      try {
+        return this.#lendThis(this.#grown(size), size);
+      } catch (error) {
+        if (!(error instanceof RangeError) || size < LEAST_LENT) throw error;
+      }
+    }
   }
 
   #lendThis(at, size) {
