@@ -55,19 +55,23 @@ pub fn refine(
     }
     let wanted = parameters_of(*parameters);
     match dcel_refinement::refine(triangulation.held.as_mut(), alloc, &wanted) {
-        Ok(Refined::Done {
-            added: vertices,
-            excepted: corners,
-        }) => {
+        Ok(
+            Refined::Done {
+                added: vertices,
+                excepted: corners,
+            },
+        ) => {
             *added = vertices as u64;
             *excepted = corners as u64;
             *reached = true;
             DONE
         }
-        Ok(Refined::Stopped {
-            added: vertices,
-            excepted: corners,
-        }) => {
+        Ok(
+            Refined::Stopped {
+                added: vertices,
+                excepted: corners,
+            },
+        ) => {
             *added = vertices as u64;
             *excepted = corners as u64;
             *reached = false;
