@@ -1,2 +1,4 @@
+pub mod Fitting
 pub mod Marked
+pub mod Pushed
 pub mod Written

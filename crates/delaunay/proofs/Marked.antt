@@ -1,5 +1,5 @@
 -- What is written of a constrained triangulation.
-use Rattle.std.proofs.Common.{◌≡◌, ◌∙◌, ℕ, List, [], ◌++◌, Option, None, Some, length, map, slice_get, refl, sym, ap, subst, append-nil}
+use Rattle.std.proofs.Common.{◌≡◌, ◌∙◌, ℕ, List, ◌++◌, Option, None, Some, length, map, slice_get, refl, sym, ap, subst}
 use Rattle.std.proofs.lemmas.List.{length-map}
 use Rattle.std.specs.Io.KnownBytes.{Appends}
 use Rattle.dcel_predicates.specs.declared.point.Point.{Point}
@@ -8,11 +8,11 @@ use Rattle.dcel_regions.specs.declared.mark.Mark.{Mark}
 use Rattle.dcel_constrained.specs.declared.load.Segment.{Segment}
 use Rattle.dcel_delaunay.specs.Bulk.{AnswersEach, StandAt}
 use Rattle.dcel_output.specs.Constraining.{AreConstrainedTriangles, StandsThere}
-use Rattle.dcel_output.specs.Lines.{lines_of, nearest_line, triangle_line}
-use Rattle.dcel_output.specs.Numbering.{triangles_numbered}
 use Rattle.dcel_output.proofs.Faces.{mapped_at}
-use Rattle.delaunay.specs.Answers.{TellsConstrained, TellsInside, Writes, WritesBefore, shown}
+use Rattle.delaunay.specs.Answers.{TellsConstrained, TellsInside, WritesBefore}
 use Rattle.delaunay.specs.Outlined.{IsInsideOf}
+use Rattle.delaunay.specs.Texts.{text_of}
+use Rattle.delaunay.specs.declared.arguments.Output.{Output}
 use Rattle.delaunay.specs.declared.view.Inside.{Inside}
 
 -- each point stands at the vertex that it has
@@ -28,33 +28,21 @@ stand_some m points vertices all stand is = record {
 abbrev MarkedPoints : Type 0
 MarkedPoints = Mesh Point (Unit {0}) Mark (Unit {0})
 
-module _ (old new : Option (List ℕ)) (k m : MarkedPoints) (ns numbers : List ℕ) (seen inside : Option Inside) (near : List ℕ) (same : k ≡ m) (also : ns ≡ numbers) (within : seen ≡ inside) where
-  -- the triangles of the mesh that a view shows
-  told : Appends old new (lines_of triangle_line (shown seen (triangles_numbered k ns)) ++ near)
-      → Appends old new (lines_of triangle_line (shown inside (triangles_numbered m numbers)) ++ near)
-  told text =
-      subst (λ (x : Option Inside). Appends old new (lines_of triangle_line (shown x (triangles_numbered m numbers)) ++ near)) within
-      (subst (λ (x : List ℕ). Appends old new (lines_of triangle_line (shown seen (triangles_numbered m x)) ++ near)) also
-      (subst (λ (x : MarkedPoints). Appends old new (lines_of triangle_line (shown seen (triangles_numbered x ns)) ++ near)) same text))
+module _ (old new : Option (List ℕ)) (m : MarkedPoints) (numbers : List ℕ) (inside : Option Inside) (near : List ℕ) (output : Output)
+    (text : Appends old new (text_of output m numbers inside ++ near)) (points : List Point) (vertices : List (Option ℕ)) (segments : List Segment)
+    (are : AreConstrainedTriangles points vertices segments m numbers) where
+  -- an output of it
+  pub constrained_written : inside ≡ None → WritesBefore (TellsConstrained points segments output) near old new
+  constrained_written none = (
+    text_of output m numbers None,
+    record { mesh = m; vertices = vertices; numbers = numbers; are = are; lines = refl },
+    subst (λ (x : Option Inside). Appends old new (text_of output m numbers x ++ near)) none text,
+  )
 
-  module _ (points : List Point) (vertices : List (Option ℕ)) (segments : List Segment) (are : AreConstrainedTriangles points vertices segments m numbers)
-      (text : Appends old new (lines_of triangle_line (shown seen (triangles_numbered k ns)) ++ near)) where
-    pub constrained_written : inside ≡ None → WritesBefore (TellsConstrained points segments) near old new
-    constrained_written none = (
-      lines_of triangle_line (triangles_numbered m numbers),
-      record { mesh = m; vertices = vertices; numbers = numbers; are = are; lines = refl },
-      subst (λ (x : Option Inside). Appends old new (lines_of triangle_line (shown x (triangles_numbered m numbers)) ++ near)) none (told text),
-    )
-
-    pub inside_written : (sides : List Segment) → IsInsideOf m vertices sides inside → WritesBefore (TellsInside points segments sides) near old new
-    inside_written sides (i, is, lists) = (
-      lines_of triangle_line (shown (Some i) (triangles_numbered m numbers)),
-      record { mesh = m; vertices = vertices; numbers = numbers; are = are; flags = i.triangles.items; inside = lists; lines = refl },
-      subst (λ (x : Option Inside). Appends old new (lines_of triangle_line (shown x (triangles_numbered m numbers)) ++ near)) is (told text),
-    )
-
--- no nearest point behind them
-pub without_rest : (Tells : List ℕ → Type 0) (near : List (Option ℕ)) (old new : Option (List ℕ)) → near ≡ [] → WritesBefore Tells (lines_of nearest_line near) old new
-    → Writes Tells old new
-without_rest Tells near old new none (text, tells, appends) =
-    (text, tells, subst (Appends old new) (ap (λ (l : List (Option ℕ)). text ++ lines_of nearest_line l) none ∙ append-nil text) appends)
+  -- of what is inside an outline
+  pub inside_written : (sides : List Segment) → IsInsideOf m vertices sides inside → WritesBefore (TellsInside points segments sides output) near old new
+  inside_written sides (i, is, lists, beside) = (
+    text_of output m numbers (Some i),
+    record { mesh = m; vertices = vertices; numbers = numbers; are = are; inside = i; triangles = lists; edges = beside; lines = refl },
+    subst (λ (x : Option Inside). Appends old new (text_of output m numbers x ++ near)) is text,
+  )

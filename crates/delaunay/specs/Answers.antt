@@ -1,5 +1,5 @@
 -- What the program is asked for, and what it writes then.
-use Rattle.std.specs.Prelude.{◌≡◌, ◌≢◌, ◌⊎◌, ◌++◌, ℕ, Bool, List, Option, None, Some}
+use Rattle.std.specs.Prelude.{◌≡◌, ◌≢◌, ◌⊎◌, ◌++◌, ℕ, List, [], Option, None, Some}
 use Rattle.std.specs.Io.KnownBytes.{Appends}
 use Rattle.dcel_predicates.specs.declared.point.Point.{Point}
 use Rattle.dcel_maps.specs.Shapes.{Mesh}
@@ -11,11 +11,13 @@ use Rattle.dcel_delaunay.specs.Triangles.{AreDelaunayTriangles}
 use Rattle.dcel_delaunay.specs.Triangulated.{mesh_in}
 use Rattle.dcel_delaunay.specs.declared.triangles.triangle.Triangle.{Triangle}
 use Rattle.dcel_output.specs.Constraining.{AreConstrainedTriangles, StandsThere}
-use Rattle.dcel_output.specs.Keeping.{kept}
 use Rattle.dcel_output.specs.Lines.{lines_of, nearest_line, triangle_line}
-use Rattle.dcel_output.specs.Numbering.{IsNearestPoint, NumbersVertices, triangles_numbered}
+use Rattle.dcel_output.specs.Numbering.{IsNearestPoint, NumbersVertices}
 use Rattle.dcel_output.specs.Outlining.{ListsInside}
+use Rattle.dcel_output.specs.Whole.{IsDelaunayMesh}
+use Rattle.delaunay.specs.Texts.{AreBeside, IsListed, text_of}
 use Rattle.delaunay.specs.declared.arguments.Arguments.{Arguments}
+use Rattle.delaunay.specs.declared.arguments.Output.{Output}
 use Rattle.delaunay.specs.declared.arguments.Output.TheVariants.{Triangles}
 use Rattle.delaunay.specs.declared.drawn.Drawn.{Drawn}
 use Rattle.delaunay.specs.declared.view.Inside.{Inside}
@@ -42,55 +44,71 @@ pub record AsksForNearest (a : Arguments) : Type 0 where
 abbrev pub HasConstraints : Arguments → Type 0
 HasConstraints a = (a.constraints ≢ None) ⊎ (a.outline ≢ None)
 
--- the triangles are asked for, all points stay, and edges have to
-pub record AsksForConstrained (a : Arguments) : Type 0 where
-  pub output : a.output ≡ Some Triangles
-  pub nearest : a.nearest ≡ None
+-- a listed output is asked for
+pub record AsksFor (a : Arguments) (output : Output) : Type 0 where
+  pub is : a.output ≡ Some output
+  pub listed : IsListed output
+
+-- one of a plain triangulation is: all points stay, and no edge has to
+pub record AsksForPlain (a : Arguments) (output : Output) : Type 0 where
+  pub asks : AsksFor a output
+  pub plain : ChangesNothing a
+
+-- one of a constrained triangulation is: all points stay, and edges have to
+pub record AsksForConstrained (a : Arguments) (output : Output) : Type 0 where
+  pub asks : AsksFor a output
   pub remove : a.remove ≡ None
   pub constraints : a.constraints ≢ None
   pub outline : a.outline ≡ None
 
--- the triangles inside an outline are
-pub record AsksForInside (a : Arguments) : Type 0 where
-  pub output : a.output ≡ Some Triangles
-  pub nearest : a.nearest ≡ None
+-- one of what is inside an outline is
+pub record AsksForInside (a : Arguments) (output : Output) : Type 0 where
+  pub asks : AsksFor a output
   pub remove : a.remove ≡ None
   pub outline : a.outline ≢ None
-
--- the triangles that are shown: all, or those inside an outline
-abbrev pub shown : {T : Type 0} → Option Inside → List T → List T
-shown None items = items
-shown (Some inside) items = kept inside.triangles.items items
 
 -- the lines of the triangles of a Delaunay triangulation of the points, behind what was written
 abbrev pub WritesTriangles : List Point → Option (List ℕ) → Option (List ℕ) → Type 0
 WritesTriangles points old new = (triangles : List Triangle) × AreDelaunayTriangles points triangles × Appends old new (lines_of triangle_line triangles)
 
--- the lines of the triangles of a constrained Delaunay triangulation of the points, whose marked edges are those of the segments
-pub record TellsConstrained (points : List Point) (segments : List Segment) (text : List ℕ) : Type 0 where
+-- the text of an output of a Delaunay triangulation of the points
+pub record TellsDelaunay (points : List Point) (output : Output) (text : List ℕ) : Type 0 where
+  pub mesh : Mesh Point (Unit {0}) (Unit {0}) (Unit {0})
+  pub numbers : List ℕ
+  pub are : IsDelaunayMesh points mesh numbers
+  pub lines : text ≡ text_of output mesh numbers None
+
+-- of a constrained Delaunay triangulation of the points, whose marked edges are those of the segments
+pub record TellsConstrained (points : List Point) (segments : List Segment) (output : Output) (text : List ℕ) : Type 0 where
   pub mesh : Mesh Point (Unit {0}) Mark (Unit {0})
   pub vertices : List (Option ℕ)
   pub numbers : List ℕ
   pub are : AreConstrainedTriangles points vertices segments mesh numbers
-  pub lines : text ≡ lines_of triangle_line (triangles_numbered mesh numbers)
+  pub lines : text ≡ text_of output mesh numbers None
 
--- of those inside an outline with these sides alone
-pub record TellsInside (points : List Point) (segments sides : List Segment) (text : List ℕ) : Type 0 where
+-- of what is inside an outline with these sides alone
+pub record TellsInside (points : List Point) (segments sides : List Segment) (output : Output) (text : List ℕ) : Type 0 where
   pub mesh : Mesh Point (Unit {0}) Mark (Unit {0})
   pub vertices : List (Option ℕ)
   pub numbers : List ℕ
   pub are : AreConstrainedTriangles points vertices segments mesh numbers
-  pub flags : List Bool
-  pub inside : ListsInside mesh vertices sides flags
-  pub lines : text ≡ lines_of triangle_line (kept flags (triangles_numbered mesh numbers))
+  pub inside : Inside
+  pub triangles : ListsInside mesh vertices sides inside.triangles.items
+  pub edges : AreBeside mesh inside
+  pub lines : text ≡ text_of output mesh numbers (Some inside)
 
--- such a text, behind what was written
-abbrev pub Writes : (List ℕ → Type 0) → Option (List ℕ) → Option (List ℕ) → Type 0
-Writes Tells old new = (text : List ℕ) × Tells text × Appends old new text
-
--- and a rest behind it
+-- such a text and a rest behind it, behind what was written
 abbrev pub WritesBefore : (List ℕ → Type 0) → List ℕ → Option (List ℕ) → Option (List ℕ) → Type 0
 WritesBefore Tells rest old new = (text : List ℕ) × Tells text × Appends old new (text ++ rest)
+
+-- the numbers of points that are nearest to the places, if these are asked for
+pub record AreNearest (a : Arguments) (points places : List Point) (nearest : List (Option ℕ)) : Type 0 where
+  pub unasked : a.nearest ≡ None → nearest ≡ []
+  pub each : a.nearest ≢ None → AnswersEach (IsNearestPoint points) places nearest
+
+-- such a text, and below it lines of nearest points if these are asked for
+abbrev pub Writes : (List ℕ → Type 0) → Arguments → (points places : List Point) → Option (List ℕ) → Option (List ℕ) → Type 0
+Writes Tells a points places old new = (nearest : List (Option ℕ)) × AreNearest a points places nearest × WritesBefore Tells (lines_of nearest_line nearest) old new
 
 -- for each place the line of a point that is nearest to it
 abbrev pub WritesNearest : List Point → List Point → Option (List ℕ) → Option (List ℕ) → Type 0

@@ -1,13 +1,13 @@
 //! What the program answers to what it has read.
 
-ghost use Rattle.std.specs.Prelude.{◌≡◌, ◌++◌, List, None, OnOk, Some, map, option_copied};
+ghost use Rattle.std.specs.Prelude.{◌≡◌, ◌++◌, List, None, OnOk, map, option_copied};
 ghost use Rattle.std.specs.Io.KnownBytes.{Appends};
 ghost use Rattle.dcel_delaunay.specs.Triangulated.{mesh_in};
-ghost use Rattle.dcel_output.specs.Lines.{lines_of, nearest_line, triangle_line};
-ghost use Rattle.dcel_output.specs.Numbering.{triangles_numbered};
+ghost use Rattle.dcel_output.specs.Lines.{lines_of, nearest_line};
 ghost use Rattle.dcel_predicates.specs.declared.point.Point.{Point};
-ghost use Rattle.delaunay.specs.Answers.{AsksForConstrained, AsksForInside, AsksForNearest, AsksForTriangles, ChangesNothing, HasConstraints, HasVertices, IsDrawn, TellsConstrained, TellsInside, Writes, WritesBefore, WritesNearest, WritesTriangles, shown};
+ghost use Rattle.delaunay.specs.Answers.{AsksForConstrained, AsksForInside, AsksForNearest, AsksForPlain, AsksForTriangles, ChangesNothing, HasVertices, IsDrawn, TellsConstrained, TellsDelaunay, TellsInside, Writes, WritesBefore, WritesNearest, WritesTriangles};
 ghost use Rattle.delaunay.specs.Segments.{segment_of, segments_of};
+ghost use Rattle.delaunay.specs.Texts.{IsStated, text_asked};
 
 use crate::arguments::{Arguments, Output};
 use crate::constraining::Constrained;
@@ -20,7 +20,9 @@ use crate::timing::tell_time;
 use crate::triangulating::triangulate;
 use crate::view::View;
 use crate::writing::write_all;
-use dcel_output::laws::{nearest_numbers_are_nearest, numbered_triangles_are_delaunay};
+use dcel_output::laws::{
+    nearest_numbers_are_nearest, numbered_triangles_are_delaunay, whole_meshes_are_delaunay,
+};
 use dcel_programs::Progress;
 use std::io::Write;
 use std::rt::{Clock, Files};
@@ -29,9 +31,11 @@ use std::time::Instant;
 /// Triangulates the points of a task, and writes what is asked for.
 ///
 /// If triangles are asked for, and nothing else, then those are written of a Delaunay triangulation
-/// of the points, a line for each; if nearest points are, a line for each place. With constraints it
-/// is a constrained one, whose marked edges are those of the segments, and with an outline those of
-/// its triangles are written that are inside. If a write fails, some of the text may be written.
+/// of the points, a line for each; if nearest points are, a line for each place. Of edges, the hull
+/// and neighbors those of such a triangulation are written. With constraints it is a constrained one,
+/// whose marked edges are those of the segments, and with an outline what is inside is written. Below
+/// an output are the lines of nearest points, if these are asked for too. If a write fails, some of
+/// the text may be written.
 pub fn answer<W: Write>(
     rt: &(impl Files + Clock + Print + Eprint + AllocGlobal),
     writer: &mut W,
@@ -41,10 +45,14 @@ pub fn answer<W: Write>(
 ) -> Result<(), Fault>
     ensures triangles { OnOk result (AsksForTriangles arguments.now → WritesTriangles task.now.points.items (W.contents writer.old) (W.contents writer.new)) }
     ensures nearest { OnOk result (AsksForNearest arguments.now → WritesNearest task.now.points.items task.now.places.items (W.contents writer.old) (W.contents writer.new)) }
-    ensures constrained { OnOk result (AsksForConstrained arguments.now
-        → Writes (TellsConstrained task.now.points.items (segments_of task.now.constraints.items task.now.outline.items)) (W.contents writer.old) (W.contents writer.new)) }
-    ensures inside { OnOk result (AsksForInside arguments.now
-        → Writes (TellsInside task.now.points.items (segments_of task.now.constraints.items task.now.outline.items) (map segment_of task.now.outline.items)) (W.contents writer.old) (W.contents writer.new)) }
+    ensures plain { OnOk result ((output : Output) → AsksForPlain arguments.now output
+        → Writes (TellsDelaunay task.now.points.items output) arguments.now task.now.points.items task.now.places.items (W.contents writer.old) (W.contents writer.new)) }
+    ensures constrained { OnOk result ((output : Output) → AsksForConstrained arguments.now output
+        → Writes (TellsConstrained task.now.points.items (segments_of task.now.constraints.items task.now.outline.items) output)
+        arguments.now task.now.points.items task.now.places.items (W.contents writer.old) (W.contents writer.new)) }
+    ensures inside { OnOk result ((output : Output) → AsksForInside arguments.now output
+        → Writes (TellsInside task.now.points.items (segments_of task.now.constraints.items task.now.outline.items) (map segment_of task.now.outline.items) output)
+        arguments.now task.now.points.items task.now.places.items (W.contents writer.old) (W.contents writer.new)) }
 {
     let drawn = triangulate(rt, progress, arguments, task)?;
     answer_of(rt, writer, arguments, task, &drawn)
@@ -62,11 +70,16 @@ fn answer_of<W: Write>(
         → WritesTriangles task.now.points.items (W.contents writer.old) (W.contents writer.new)) }
     ensures nearest { OnOk result (AsksForNearest arguments.now → IsDrawn task.now.points.items drawn.now
         → WritesNearest task.now.points.items task.now.places.items (W.contents writer.old) (W.contents writer.new)) }
-    ensures constrained { OnOk result (AsksForConstrained arguments.now → IsDrawn task.now.points.items drawn.now → HasVertices task.now.points.items drawn.now
-        → Writes (TellsConstrained task.now.points.items (segments_of task.now.constraints.items task.now.outline.items)) (W.contents writer.old) (W.contents writer.new)) }
-    ensures inside { OnOk result (AsksForInside arguments.now → IsDrawn task.now.points.items drawn.now → HasVertices task.now.points.items drawn.now
-        → Writes (TellsInside task.now.points.items (segments_of task.now.constraints.items task.now.outline.items) (map segment_of task.now.outline.items)) (W.contents writer.old) (W.contents writer.new)) }
+    ensures plain { OnOk result ((output : Output) → AsksForPlain arguments.now output → IsDrawn task.now.points.items drawn.now
+        → Writes (TellsDelaunay task.now.points.items output) arguments.now task.now.points.items task.now.places.items (W.contents writer.old) (W.contents writer.new)) }
+    ensures constrained { OnOk result ((output : Output) → AsksForConstrained arguments.now output → IsDrawn task.now.points.items drawn.now → HasVertices task.now.points.items drawn.now
+        → Writes (TellsConstrained task.now.points.items (segments_of task.now.constraints.items task.now.outline.items) output)
+        arguments.now task.now.points.items task.now.places.items (W.contents writer.old) (W.contents writer.new)) }
+    ensures inside { OnOk result ((output : Output) → AsksForInside arguments.now output → IsDrawn task.now.points.items drawn.now → HasVertices task.now.points.items drawn.now
+        → Writes (TellsInside task.now.points.items (segments_of task.now.constraints.items task.now.outline.items) (map segment_of task.now.outline.items) output)
+        arguments.now task.now.points.items task.now.places.items (W.contents writer.old) (W.contents writer.new)) }
 {
+    whole_meshes_are_delaunay(&drawn.triangulation);
     numbered_triangles_are_delaunay(&drawn.triangulation);
     nearest_numbers_are_nearest(&drawn.triangulation);
     let nearest = find_nearest(rt, arguments, task, drawn)?;
@@ -82,16 +95,14 @@ fn write_found<W: Write>(
     drawn: &Drawn,
     nearest: &[Option<u32>],
 ) -> Result<(), Fault>
-    ensures triangles { OnOk result (ChangesNothing arguments.now → arguments.now.output ≡ Some Output.Triangles → Appends (W.contents writer.old) (W.contents writer.new)
-        (lines_of triangle_line (triangles_numbered (mesh_in drawn.now.triangulation) drawn.now.numbers.items) ++ lines_of nearest_line nearest.now)) }
-    ensures nearest { OnOk result (ChangesNothing arguments.now → arguments.now.output ≡ None → Appends (W.contents writer.old) (W.contents writer.new) (lines_of nearest_line nearest.now)) }
-    ensures constrained { OnOk result (arguments.now.output ≡ Some Output.Triangles → HasConstraints arguments.now → arguments.now.outline ≡ None
-        → (points : List Point) → IsDrawn points drawn.now → HasVertices points drawn.now
-        → WritesBefore (TellsConstrained points (segments_of task.now.constraints.items task.now.outline.items)) (lines_of nearest_line nearest.now) (W.contents writer.old) (W.contents writer.new)) }
-    ensures inside { OnOk result (arguments.now.output ≡ Some Output.Triangles → ¬ (arguments.now.outline ≡ None)
-        → (points : List Point) → IsDrawn points drawn.now → HasVertices points drawn.now
-        → WritesBefore (TellsInside points (segments_of task.now.constraints.items task.now.outline.items) (map segment_of task.now.outline.items)) (lines_of nearest_line nearest.now)
-        (W.contents writer.old) (W.contents writer.new)) }
+    ensures plain { OnOk result (ChangesNothing arguments.now → IsStated arguments.now.output → Appends (W.contents writer.old) (W.contents writer.new)
+        (text_asked arguments.now.output (mesh_in drawn.now.triangulation) drawn.now.numbers.items None ++ lines_of nearest_line nearest.now)) }
+    ensures constrained { OnOk result ((output : Output) → AsksForConstrained arguments.now output → (points : List Point) → IsDrawn points drawn.now → HasVertices points drawn.now
+        → WritesBefore (TellsConstrained points (segments_of task.now.constraints.items task.now.outline.items) output)
+        (lines_of nearest_line nearest.now) (W.contents writer.old) (W.contents writer.new)) }
+    ensures inside { OnOk result ((output : Output) → AsksForInside arguments.now output → (points : List Point) → IsDrawn points drawn.now → HasVertices points drawn.now
+        → WritesBefore (TellsInside points (segments_of task.now.constraints.items task.now.outline.items) (map segment_of task.now.outline.items) output)
+        (lines_of nearest_line nearest.now) (W.contents writer.old) (W.contents writer.new)) }
 {
     if arguments.has_constraints() {
         return answer_constrained(rt, writer, arguments, task, drawn, nearest);
@@ -108,13 +119,12 @@ fn answer_constrained<W: Write>(
     drawn: &Drawn,
     nearest: &[Option<u32>],
 ) -> Result<(), Fault>
-    ensures constrained { OnOk result (arguments.now.output ≡ Some Output.Triangles → arguments.now.outline ≡ None
-        → (points : List Point) → IsDrawn points drawn.now → HasVertices points drawn.now
-        → WritesBefore (TellsConstrained points (segments_of task.now.constraints.items task.now.outline.items)) (lines_of nearest_line nearest.now) (W.contents writer.old) (W.contents writer.new)) }
-    ensures inside { OnOk result (arguments.now.output ≡ Some Output.Triangles → ¬ (arguments.now.outline ≡ None)
-        → (points : List Point) → IsDrawn points drawn.now → HasVertices points drawn.now
-        → WritesBefore (TellsInside points (segments_of task.now.constraints.items task.now.outline.items) (map segment_of task.now.outline.items)) (lines_of nearest_line nearest.now)
-        (W.contents writer.old) (W.contents writer.new)) }
+    ensures constrained { OnOk result ((output : Output) → AsksForConstrained arguments.now output → (points : List Point) → IsDrawn points drawn.now → HasVertices points drawn.now
+        → WritesBefore (TellsConstrained points (segments_of task.now.constraints.items task.now.outline.items) output)
+        (lines_of nearest_line nearest.now) (W.contents writer.old) (W.contents writer.new)) }
+    ensures inside { OnOk result ((output : Output) → AsksForInside arguments.now output → (points : List Point) → IsDrawn points drawn.now → HasVertices points drawn.now
+        → WritesBefore (TellsInside points (segments_of task.now.constraints.items task.now.outline.items) (map segment_of task.now.outline.items) output)
+        (lines_of nearest_line nearest.now) (W.contents writer.old) (W.contents writer.new)) }
 {
     let start = Instant::now(rt)?;
     let constrained = Constrained::of(rt.alloc(), arguments, task, drawn)?;
@@ -136,9 +146,8 @@ pub fn write_drawn<W: Write, UE>(
     view: &View<'_, UE>,
     nearest: &[Option<u32>],
 ) -> Result<(), Fault>
-    ensures triangles { OnOk result (arguments.now.output ≡ Some Output.Triangles → Appends (W.contents writer.old) (W.contents writer.new)
-        (lines_of triangle_line (shown (option_copied view.now.inside) (triangles_numbered view.now.mesh.now view.now.numbers.now)) ++ lines_of nearest_line nearest.now)) }
-    ensures nearest { OnOk result (arguments.now.output ≡ None → Appends (W.contents writer.old) (W.contents writer.new) (lines_of nearest_line nearest.now)) }
+    ensures { OnOk result (IsStated arguments.now.output → Appends (W.contents writer.old) (W.contents writer.new)
+        (text_asked arguments.now.output view.now.mesh.now view.now.numbers.now (option_copied view.now.inside) ++ lines_of nearest_line nearest.now)) }
 {
     save(rt, arguments, view)?;
     match write_all(rt.alloc(), writer, arguments.output, view, nearest) {

@@ -526,7 +526,9 @@ impl<'a> Arguments<'a> {
     }
 
     /// Returns whether points may be added.
-    pub fn adds_points(&self) -> bool {
+    pub fn adds_points(&self) -> bool
+        ensures { self.now.refine ≡ None → self.now.splits_crossings ≡ false → result ≡ false }
+    {
         self.refine.is_some() || self.splits_crossings
     }
 

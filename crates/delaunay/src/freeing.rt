@@ -2,7 +2,7 @@
 
 use crate::fault::Fault;
 use crate::reading::Coordinates;
-use crate::unit::Unit;
+use crate::unit::{Moves, Unit};
 use dcel_decimals::{Grid, Scale};
 use dcel_delaunay::Point;
 use std::alloc::{AllocError, Global};
@@ -74,11 +74,12 @@ pub fn finest_scale(
     least: Scale,
 ) -> Result<Scale, Fault> {
     let mut scale = least;
+    let mut moves = Moves::NONE;
     for _place in 0..FREE_PLACES {
         let Some(finer) = Scale::of(scale.factor().saturating_mul(10)) else {
             return Ok(scale);
         };
-        match coordinates.scaled(alloc, finer) {
+        match coordinates.points(alloc, Unit::Scale(finer), &mut moves) {
             Ok(_) => scale = finer,
             Err(Fault::OutOfMemory(error)) => return Err(Fault::OutOfMemory(error)),
             Err(_) => return Ok(scale),

@@ -4,13 +4,14 @@ ghost use Rattle.std.specs.Prelude.{◌≡◌, IfOk, map};
 ghost use Rattle.dcel_maps.specs.Removals.{Closed};
 ghost use Rattle.dcel_output.specs.Outlining.{ListsInside};
 ghost use Rattle.delaunay.specs.Segments.{segment_of};
+ghost use Rattle.delaunay.specs.Texts.{AreBeside};
 
 use crate::fault::{Fault, Wrong};
 use crate::joins::Join;
 use crate::segments::segments_of;
 use crate::view::Inside;
 use dcel_constrained::{ConstrainedMesh, Segment};
-use dcel_output::{OutlineError, triangles_inside};
+use dcel_output::{OutlineError, edges_beside, triangles_inside};
 use spade_dcel::handles::FixedVertexHandle;
 use std::alloc::{AllocError, Global};
 
@@ -23,11 +24,12 @@ pub fn inside(
     sides: &[Join],
 ) -> Result<Inside, Fault>
     requires { mesh.now.shape.removal ≡ Closed }
-    ensures { IfOk result (λ inside. ListsInside mesh.now vertices.now (map segment_of sides.now) inside.triangles.items) }
+    ensures triangles { IfOk result (λ inside. ListsInside mesh.now vertices.now (map segment_of sides.now) inside.triangles.items) }
+    ensures edges { IfOk result (λ inside. AreBeside mesh.now inside) }
 {
     let segments = segments_of(alloc, sides, &[])?;
     let triangles = flags(alloc, mesh, vertices, sides, &segments)?;
-    let edges = beside(alloc, mesh, &triangles)?;
+    let edges = edges_beside(alloc, mesh, &triangles)?;
     Ok(Inside { triangles, edges })
 }
 
@@ -59,28 +61,5 @@ fn fault_of(error: OutlineError, sides: &[Join]) -> Fault {
             None => Fault::Input(Wrong::NoChain),
         },
         OutlineError::OutOfMemory => Fault::OutOfMemory(AllocError),
-    }
-}
-
-/// Tells of each edge whether one of these triangles is beside it.
-fn beside(
-    alloc: Global,
-    mesh: &ConstrainedMesh,
-    triangles: &[bool],
-) -> Result<Vec<bool>, AllocError> {
-    let mut beside = Vec::with_capacity(alloc, mesh.num_undirected_edges())?;
-    for edge in mesh.live_undirected_edges() {
-        let half = edge.as_directed();
-        let (left, right) = (half.face().index(), half.rev().face().index());
-        beside.push(is_set(triangles, left) || is_set(triangles, right))?;
-    }
-    Ok(beside)
-}
-
-/// Returns whether the flag of a face is set. The outer face has none.
-fn is_set(triangles: &[bool], face: usize) -> bool {
-    match face.checked_sub(1) {
-        Some(place) => triangles.get(place) == Some(&true),
-        None => false,
     }
 }

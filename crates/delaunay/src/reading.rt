@@ -1,12 +1,15 @@
 //! Points read from lines.
 
+ghost use Rattle.std.specs.Prelude.{◌≡◌, ◌<◌, ◌*◌, ◌+◌, IfOk, length, min};
+ghost use Rattle.delaunay.specs.Placed.{ArePointsOf, IsFinest, IsPointAt};
+
 use crate::columns::{Columns, Head};
 use crate::fault::{Fault, Wrong};
 use crate::fields::{uncommented, unquoted};
 use crate::format::Format;
 use crate::geojson::read_shapes;
 use crate::triangle::read_points;
-use crate::unit::{Moves, scaled_point};
+use crate::unit::{Moves, Unit};
 use dcel_decimals::{Decimal, Grid, Scale};
 use dcel_delaunay::Point;
 use dcel_geojson::{Path, Shapes};
@@ -122,38 +125,37 @@ impl Coordinates {
         Ok(Scale::ONE)
     }
 
-    /// Returns the finest grid that fits all of them.
-    pub fn grid(&self) -> Grid {
-        Grid::fit(&self.all)
+    /// Returns the finest grid that fits all of them, and others.
+    pub fn grid(&self, others: &Coordinates) -> Grid
+        ensures { IsFinest result self.now.all.items others.now.all.items }
+    {
+        coarser(Grid::fit(&self.all), Grid::fit(&others.all))
     }
 
-    /// Returns the points with these coordinates times a scale.
-    pub fn scaled(&self, alloc: Global, scale: Scale) -> Result<Vec<Point>, Fault> {
-        let mut points = Vec::with_capacity(alloc, self.lines.len())?;
-        for (line, two) in self.lines.iter().zip(self.all.chunks(2)) {
-            if let &[x, y] = two {
-                let point = scaled_point(x, y, scale);
-                points.push(point.map_err(|wrong| Fault::Line { line: *line, wrong })?)?;
-            }
+    /// Returns the points that a unit makes of them, and notes how a grid has moved these.
+    pub fn points(&self, alloc: Global, unit: Unit, moves: &mut Moves) -> Result<Vec<Point>, Fault>
+        ensures { IfOk result (λ points. ArePointsOf unit self.now.all.items points.items) }
+    {
+        let count = self.all.len() / 2;
+        let mut points = Vec::with_capacity(alloc, count)?;
+        for number in 0..count {
+            points.push(self.point(number, unit, moves)?)?;
         }
         Ok(points)
     }
 
-    /// Returns the points at the nearest places of a grid, and notes how they have moved.
-    pub fn snapped(
-        &self,
-        alloc: Global,
-        grid: Grid,
-        moves: &mut Moves,
-    ) -> Result<Vec<Point>, Fault> {
-        let mut points = Vec::with_capacity(alloc, self.lines.len())?;
-        for (line, two) in self.lines.iter().zip(self.all.chunks(2)) {
-            if let &[x, y] = two {
-                let point = moves.snap(x, y, grid);
-                points.push(point.map_err(|wrong| Fault::Line { line: *line, wrong })?)?;
-            }
+    /// Returns the point of this number, and notes how a grid has moved it.
+    fn point(&self, number: usize, unit: Unit, moves: &mut Moves) -> Result<Point, Fault>
+        requires { 2 * number + 1 < length self.now.all.items }
+        ensures { IfOk result (IsPointAt unit self.now.all.items number) }
+    {
+        match moves.point(self.all[2 * number], self.all[2 * number + 1], unit) {
+            Ok(point) => Ok(point),
+            Err(wrong) => Err(Fault::Line {
+                line: self.line(number),
+                wrong,
+            }),
         }
-        Ok(points)
     }
 
     /// Returns how many different points have these coordinates.
@@ -168,6 +170,13 @@ impl Coordinates {
         places.dedup();
         Ok(places.len())
     }
+}
+
+/// Returns the coarser one of two grids.
+fn coarser(a: Grid, b: Grid) -> Grid
+    ensures { result.halvings ≡ min a.halvings b.halvings }
+{
+    if a.halvings < b.halvings { a } else { b }
 }
 
 /// Reads the coordinates that the lines of a file say.

@@ -1,5 +1,9 @@
 //! What the program is asked to do, as its files say.
 
+ghost use Rattle.std.specs.Prelude.{◌≡◌, IfOk, OnOk, true};
+ghost use Rattle.delaunay.specs.Asked.{AddsNone};
+ghost use Rattle.delaunay.specs.Placed.{ArePointsOf, IsOnFinest};
+
 use crate::arguments::Arguments;
 use crate::fault::{Fault, Wrong};
 use crate::format::Format;
@@ -10,7 +14,7 @@ use crate::numbering::Numbering;
 use crate::reading::{Coordinates, in_file, read_coordinates};
 use crate::removal::read_marks;
 use crate::unit::{Moves, Unit};
-use dcel_decimals::{Grid, Scale};
+use dcel_decimals::Scale;
 use dcel_delaunay::Point;
 use dcel_programs::read_text;
 use std::alloc::{AllocError, Global};
@@ -91,24 +95,56 @@ impl Task {
         arguments: &Arguments,
         coordinates: &Coordinates,
         asked: &Coordinates,
-    ) -> Result<(), Fault> {
+    ) -> Result<(), Fault>
+        ensures points { OnOk result (AddsNone arguments.now → ArePointsOf self.new.unit coordinates.now.all.items self.new.points.items) }
+        ensures places { OnOk result (ArePointsOf self.new.unit asked.now.all.items self.new.places.items) }
+        ensures grid { OnOk result (AddsNone arguments.now → arguments.now.is_on_grid ≡ true → IsOnFinest self.new.unit coordinates.now.all.items asked.now.all.items) }
+    {
         report_first(rt, coordinates.first)?;
-        let room = room_of(rt, arguments, coordinates, asked)?;
-        self.unit = room.unit;
-        let mut moves = Moves::NONE;
-        self.points = points_of(rt.alloc(), coordinates, self.unit, &mut moves)?;
-        if let Unit::Grid(grid) = self.unit {
-            self.report_moves(rt, grid, moves, coordinates)?;
-        }
-        if arguments.adds_points() {
-            self.take_room(rt, room)?;
-        }
+        self.take_points(rt, arguments, coordinates, asked)?;
         self.read_numbers(rt, arguments, coordinates)?;
-        self.places = points_of(rt.alloc(), asked, self.unit, &mut moves).map_err(|fault| in_file(
-            rt.alloc(),
-            arguments.places(),
-            fault,
-        ))?;
+        self.take_places(rt.alloc(), arguments, asked)
+    }
+
+    /// Takes the points with these coordinates, and says on standard error what a grid has made of
+    /// them.
+    fn take_points(
+        &mut self,
+        rt: &(impl Eprint + AllocGlobal),
+        arguments: &Arguments,
+        coordinates: &Coordinates,
+        asked: &Coordinates,
+    ) -> Result<(), Fault>
+        ensures points { OnOk result (AddsNone arguments.now → ArePointsOf self.new.unit coordinates.now.all.items self.new.points.items) }
+        ensures grid { OnOk result (AddsNone arguments.now → arguments.now.is_on_grid ≡ true → IsOnFinest self.new.unit coordinates.now.all.items asked.now.all.items) }
+    {
+        let room = room_of(rt, arguments, coordinates, asked)?;
+        let mut moves = Moves::NONE;
+        self.unit = room.unit;
+        self.points = coordinates.points(rt.alloc(), room.unit, &mut moves)?;
+        self.report_moves(rt, moves, coordinates)?;
+        if arguments.adds_points() {
+            return self.take_room(rt, room);
+        }
+        Ok(())
+    }
+
+    /// Takes the places with these coordinates.
+    fn take_places(
+        &mut self,
+        alloc: Global,
+        arguments: &Arguments,
+        asked: &Coordinates,
+    ) -> Result<(), Fault>
+        ensures points { self.new.points ≡ self.old.points }
+        ensures unit { self.new.unit ≡ self.old.unit }
+        ensures places { OnOk result (ArePointsOf self.new.unit asked.now.all.items self.new.places.items) }
+    {
+        let mut moves = Moves::NONE;
+        match asked.points(alloc, self.unit, &mut moves) {
+            Ok(places) => self.places = places,
+            Err(fault) => return Err(in_file(alloc, arguments.places(), fault)),
+        }
         Ok(())
     }
 
@@ -123,14 +159,16 @@ impl Task {
         Ok(())
     }
 
-    /// Says on standard error what a grid has made of the points.
+    /// Says on standard error what a grid has made of the points, if there is one.
     fn report_moves(
         &self,
         rt: &(impl Eprint + AllocGlobal),
-        grid: Grid,
         moves: Moves,
         coordinates: &Coordinates,
     ) -> Result<(), Fault> {
+        let Unit::Grid(grid) = self.unit else {
+            return Ok(());
+        };
         let before = coordinates.count_different(rt.alloc())?;
         let equal = before.saturating_sub(count_different(rt.alloc(), &self.points)?);
         let power = grid.power();
@@ -149,7 +187,10 @@ impl Task {
         rt: &(impl Files + Input + AllocGlobal),
         arguments: &Arguments,
         coordinates: &Coordinates,
-    ) -> Result<(), Fault> {
+    ) -> Result<(), Fault>
+        ensures points { self.new.points ≡ self.old.points }
+        ensures unit { self.new.unit ≡ self.old.unit }
+    {
         if let Some(path) = arguments.remove {
             self.is_removed = read_marks(rt, path, self.points.len())?;
         }
@@ -187,7 +228,10 @@ impl Task {
     }
 
     /// Takes the lines of the points' file as constraints, and its rings as an outline.
-    fn take_paths(&mut self, alloc: Global, coordinates: &Coordinates) -> Result<(), AllocError> {
+    fn take_paths(&mut self, alloc: Global, coordinates: &Coordinates) -> Result<(), AllocError>
+        ensures points { self.new.points ≡ self.old.points }
+        ensures unit { self.new.unit ≡ self.old.unit }
+    {
         self.constraints = joins_along(alloc, coordinates, &self.points, Which::Lines)?;
         self.outline = joins_along(alloc, coordinates, &self.points, Which::Rings)?;
         self.has_rings = coordinates.paths.iter().any(|path| path.is_ring);
@@ -201,13 +245,15 @@ fn room_of(
     arguments: &Arguments,
     coordinates: &Coordinates,
     asked: &Coordinates,
-) -> Result<Room, Fault> {
+) -> Result<Room, Fault>
+    ensures { IfOk result (λ room. AddsNone arguments.now → arguments.now.is_on_grid ≡ true → IsOnFinest room.unit coordinates.now.all.items asked.now.all.items) }
+{
     if !arguments.adds_points() {
         let unit = unit_of(rt, arguments, coordinates, asked)?;
         return Ok(Room { unit, bits: 0 });
     }
     match (arguments.is_on_grid, arguments.scale) {
-        (true, None) => Ok(Room::by_grid(coordinates.grid())),
+        (true, None) => Ok(Room::by_grid(coordinates.grid(asked))),
         (true, Some(_)) => Err(Fault::Input(Wrong::ScaledGrid)),
         (false, Some(scale)) => Ok(Room::by_scale(scale, coordinates.scale()?)),
         (false, None) => {
@@ -225,9 +271,11 @@ fn unit_of(
     arguments: &Arguments,
     coordinates: &Coordinates,
     asked: &Coordinates,
-) -> Result<Unit, Fault> {
+) -> Result<Unit, Fault>
+    ensures { IfOk result (λ unit. arguments.now.is_on_grid ≡ true → IsOnFinest unit coordinates.now.all.items asked.now.all.items) }
+{
     match (arguments.is_on_grid, arguments.scale) {
-        (true, None) => Ok(Unit::Grid(coarser(coordinates.grid(), asked.grid()))),
+        (true, None) => Ok(Unit::Grid(coordinates.grid(asked))),
         (true, Some(_)) => Err(Fault::Input(Wrong::ScaledGrid)),
         (false, Some(scale)) => Ok(Unit::Scale(scale)),
         (false, None) => {
@@ -257,19 +305,6 @@ fn report_scale(rt: &impl Eprint, scale: Scale) -> io::Result<()> {
     Ok(())
 }
 
-/// Returns the points with these coordinates, and notes how a grid moves them.
-fn points_of(
-    alloc: Global,
-    coordinates: &Coordinates,
-    unit: Unit,
-    moves: &mut Moves,
-) -> Result<Vec<Point>, Fault> {
-    match unit {
-        Unit::Scale(scale) => coordinates.scaled(alloc, scale),
-        Unit::Grid(grid) => coordinates.snapped(alloc, grid, moves),
-    }
-}
-
 /// Returns how many different points there are.
 fn count_different(alloc: Global, points: &[Point]) -> Result<usize, AllocError> {
     let mut places = Vec::with_capacity(alloc, points.len())?;
@@ -284,9 +319,4 @@ fn count_different(alloc: Global, points: &[Point]) -> Result<usize, AllocError>
 /// Returns the greater one of two scales.
 fn greater(a: Scale, b: Scale) -> Scale {
     if a.power < b.power { b } else { a }
-}
-
-/// Returns the coarser one of two grids.
-fn coarser(a: Grid, b: Grid) -> Grid {
-    if a.halvings < b.halvings { a } else { b }
 }

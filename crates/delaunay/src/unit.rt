@@ -1,6 +1,7 @@
 //! What the whole coordinates of points stand for.
 
-ghost use Rattle.std.specs.Prelude.{◌<◌, ◌≤◌, ◌^◌, IfSome, unsigned_abs};
+ghost use Rattle.std.specs.Prelude.{◌≡◌, ◌<◌, ◌≤◌, ◌^◌, IfOk, IfSome, unsigned_abs};
+ghost use Rattle.delaunay.specs.Placed.{IsPlace, IsPointOf};
 
 use crate::fault::Wrong;
 use dcel_decimals::{Decimal, Grid, Scale, ScalingError, Snapped, Steps};
@@ -48,15 +49,27 @@ impl Unit {
 }
 
 /// Returns the point with these coordinates times a scale.
-pub fn scaled_point(x: Decimal, y: Decimal, scale: Scale) -> Result<Point, Wrong> {
-    Point::new(scaled(x, scale)?, scaled(y, scale)?).ok_or(Wrong::out_of_range(scale))
+fn scaled_point(x: Decimal, y: Decimal, scale: Scale) -> Result<Point, Wrong>
+    ensures { IfOk result (IsPointOf (Unit.Scale scale) x y) }
+{
+    let (x, y) = (scaled(x, scale)?, scaled(y, scale)?);
+    Point::new(x, y).ok_or(Wrong::out_of_range(scale))
 }
 
-fn scaled(coordinate: Decimal, scale: Scale) -> Result<i64, Wrong> {
+fn scaled(coordinate: Decimal, scale: Scale) -> Result<i64, Wrong>
+    ensures { IfOk result (IsPlace (Unit.Scale scale) coordinate) }
+{
     coordinate.scaled(scale).map_err(|error| match error {
         ScalingError::NotWhole => Wrong::NotWhole(scale.factor()),
         ScalingError::OutOfRange => Wrong::out_of_range(scale),
     })
+}
+
+/// Returns the point of so many steps.
+fn point_at(x: Snapped, y: Snapped) -> Result<Point, Wrong>
+    ensures { IfOk result (λ p. (p.x ≡ x.steps) × (p.y ≡ y.steps)) }
+{
+    Point::new(x.steps, y.steps).ok_or(Wrong::TooLarge)
 }
 
 /// How points have moved to the places of a grid.
@@ -72,14 +85,29 @@ impl Moves {
     /// No point has moved.
     pub const NONE: Moves = Moves { count: 0, most: 0 };
 
+    /// Returns the point that a unit makes of these coordinates, and notes how a grid has moved it.
+    pub fn point(&mut self, x: Decimal, y: Decimal, unit: Unit) -> Result<Point, Wrong>
+        ensures { IfOk result (IsPointOf unit x y) }
+    {
+        match unit {
+            Unit::Scale(scale) => scaled_point(x, y, scale),
+            Unit::Grid(grid) => self.snap(x, y, grid),
+        }
+    }
+
     /// Returns the point at the place of a grid that is nearest to these coordinates, and notes
     /// how it has moved. The grid fits them.
-    pub fn snap(&mut self, x: Decimal, y: Decimal, grid: Grid) -> Result<Point, Wrong> {
-        let (Some(x), Some(y)) = (grid.snap(x), grid.snap(y)) else {
+    fn snap(&mut self, x: Decimal, y: Decimal, grid: Grid) -> Result<Point, Wrong>
+        ensures { IfOk result (IsPointOf (Unit.Grid grid) x y) }
+    {
+        let Some(left) = grid.snap(x) else {
             return Err(Wrong::TooLarge);
         };
-        self.note(x, y);
-        Point::new(x.steps, y.steps).ok_or(Wrong::TooLarge)
+        let Some(right) = grid.snap(y) else {
+            return Err(Wrong::TooLarge);
+        };
+        self.note(left, right);
+        point_at(left, right)
     }
 
     fn note(&mut self, x: Snapped, y: Snapped) {

@@ -1,10 +1,11 @@
 //! What is written to standard output.
 
-ghost use Rattle.std.specs.Prelude.{◌≡◌, ◌++◌, None, OnOk, Some, option_copied};
+ghost use Rattle.std.specs.Prelude.{◌≡◌, ◌++◌, OnOk, option_copied};
+ghost use Rattle.std.specs.List.{zip};
 ghost use Rattle.std.specs.Io.KnownBytes.{Appends};
-ghost use Rattle.dcel_output.specs.Lines.{lines_of, nearest_line, triangle_line};
-ghost use Rattle.dcel_output.specs.Numbering.{triangles_numbered};
-ghost use Rattle.delaunay.specs.Answers.{shown};
+ghost use Rattle.dcel_output.specs.Lines.{edge_line, lines_of, nearest_line, neighbor_line, triangle_line, vertex_line};
+ghost use Rattle.dcel_output.specs.Numbering.{edges_numbered, hull_numbered, triangles_numbered};
+ghost use Rattle.delaunay.specs.Texts.{IsListed, IsStated, across_each, shown, shown_across, shown_edges, text_asked, text_of};
 
 use crate::arguments::Output;
 use crate::listing::{shown_edges, shown_neighbors, shown_triangles};
@@ -25,9 +26,8 @@ pub fn write_all<W: Write, UE>(
     view: &View<'_, UE>,
     nearest: &[Option<u32>],
 ) -> io::Result<()>
-    ensures triangles { OnOk result (output ≡ Some Output.Triangles → Appends (W.contents writer.old) (W.contents writer.new)
-        (lines_of triangle_line (shown (option_copied view.now.inside) (triangles_numbered view.now.mesh.now view.now.numbers.now)) ++ lines_of nearest_line nearest.now)) }
-    ensures nearest { OnOk result (output ≡ None → Appends (W.contents writer.old) (W.contents writer.new) (lines_of nearest_line nearest.now)) }
+    ensures { OnOk result (IsStated output → Appends (W.contents writer.old) (W.contents writer.new)
+        (text_asked output view.now.mesh.now view.now.numbers.now (option_copied view.now.inside) ++ lines_of nearest_line nearest.now)) }
 {
     match output {
         Some(output) => write_both(alloc, writer, output, view, nearest),
@@ -43,8 +43,8 @@ fn write_both<W: Write, UE>(
     view: &View<'_, UE>,
     nearest: &[Option<u32>],
 ) -> io::Result<()>
-    ensures { OnOk result (output ≡ Output.Triangles → Appends (W.contents writer.old) (W.contents writer.new)
-        (lines_of triangle_line (shown (option_copied view.now.inside) (triangles_numbered view.now.mesh.now view.now.numbers.now)) ++ lines_of nearest_line nearest.now)) }
+    ensures { OnOk result (IsListed output → Appends (W.contents writer.old) (W.contents writer.new)
+        (text_of output view.now.mesh.now view.now.numbers.now (option_copied view.now.inside) ++ lines_of nearest_line nearest.now)) }
 {
     write_output(alloc, writer, output, view)?;
     dcel_output::write_nearest(writer, nearest)
@@ -57,8 +57,8 @@ pub fn write_output<W: Write, UE>(
     output: Output,
     view: &View<'_, UE>,
 ) -> io::Result<()>
-    ensures { OnOk result (output ≡ Output.Triangles → Appends (W.contents writer.old) (W.contents writer.new)
-        (lines_of triangle_line (shown (option_copied view.now.inside) (triangles_numbered view.now.mesh.now view.now.numbers.now)))) }
+    ensures { OnOk result (IsListed output → Appends (W.contents writer.old) (W.contents writer.new)
+        (text_of output view.now.mesh.now view.now.numbers.now (option_copied view.now.inside))) }
 {
     match output {
         Output::Triangles => write_triangles(alloc, writer, view),
@@ -88,24 +88,31 @@ fn write_triangles<W: Write, UE>(
 
 /// Writes for each triangle which one lies across from each corner, in the order of the corners.
 /// Triangles are numbered from 0 in the order in which they are written, and -1 is none.
-fn write_neighbors<UE>(
+fn write_neighbors<W: Write, UE>(
     alloc: Global,
-    writer: &mut impl Write,
+    writer: &mut W,
     view: &View<'_, UE>,
-) -> io::Result<()> {
+) -> io::Result<()>
+    ensures { OnOk result (Appends (W.contents writer.old) (W.contents writer.new) (lines_of neighbor_line
+        (zip (shown (option_copied view.now.inside) (triangles_numbered view.now.mesh.now view.now.numbers.now)) (shown_across (option_copied view.now.inside) (across_each view.now.mesh.now))))) }
+{
     let triangles = shown_triangles(alloc, view)?;
     let neighbors = shown_neighbors(alloc, view)?;
     dcel_output::write_neighbors(writer, &triangles, &neighbors)
 }
 
 /// Writes the ends of each edge, the lesser number first.
-fn write_edges<UE>(alloc: Global, writer: &mut impl Write, view: &View<'_, UE>) -> io::Result<()> {
+fn write_edges<W: Write, UE>(alloc: Global, writer: &mut W, view: &View<'_, UE>) -> io::Result<()>
+    ensures { OnOk result (Appends (W.contents writer.old) (W.contents writer.new) (lines_of edge_line (shown_edges (option_copied view.now.inside) (edges_numbered view.now.mesh.now view.now.numbers.now)))) }
+{
     let edges = shown_edges(alloc, view)?;
     dcel_output::write_edges(writer, &edges)
 }
 
 /// Writes the points on the hull, counterclockwise. Along a line it goes there and back.
-fn write_hull<UE>(alloc: Global, writer: &mut impl Write, view: &View<'_, UE>) -> io::Result<()> {
+fn write_hull<W: Write, UE>(alloc: Global, writer: &mut W, view: &View<'_, UE>) -> io::Result<()>
+    ensures { OnOk result (Appends (W.contents writer.old) (W.contents writer.new) (lines_of vertex_line (hull_numbered view.now.mesh.now view.now.numbers.now))) }
+{
     let hull = dcel_output::numbered_hull(alloc, view.mesh, view.numbers)?;
     dcel_output::write_vertices(writer, &hull)
 }

@@ -3,6 +3,7 @@ use Rattle.std.proofs.lemmas.Option.{none-some}
 use Rattle.dcel_constrained.specs.Constrained.{marked_mesh}
 use Rattle.dcel_output.specs.Outlining.{ListsInside}
 use Rattle.delaunay.specs.Segments.{segment_of}
+use Rattle.delaunay.specs.Texts.{AreBeside}
 use Rattle.delaunay.specs.declared.joins.Join.{Join}
 use Rattle.delaunay.proofs.constraining.inside_of.Goals as goal
 
@@ -24,5 +25,6 @@ returns-in-Ok-clause-inside c = λ some.
       refl,
       subst (λ (l : List Join). ListsInside m vertices (map segment_of l) flags) c.deref-in-Some.ensures.value
           (subst (λ (l : List (Option ℕ)). ListsInside m l (map segment_of c.deref-in-Some.result.now) flags) c.deref.ensures.value
-          (subst (λ (k : _). ListsInside k c.deref.result.now (map segment_of c.deref-in-Some.result.now) flags) c.dcel.ensures.mesh c.in-Ok.ensures)),
+          (subst (λ (k : _). ListsInside k c.deref.result.now (map segment_of c.deref-in-Some.result.now) flags) c.dcel.ensures.mesh c.in-Ok.ensures.triangles)),
+      subst (λ (k : _). AreBeside k c.in-Ok.inside) c.dcel.ensures.mesh c.in-Ok.ensures.edges,
     )
