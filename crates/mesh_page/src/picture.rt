@@ -60,7 +60,7 @@ fn picture_of<A: Allocator + Copy>(alloc: A, replay: &Replay<A>) -> Result<Pictu
             let lain = lay_beside(alloc, mesh, before, &mut places)?;
             Picture::of_removal(alloc, mesh, before, &lain, &places)
         }
-        None => Picture::new(alloc, mesh, None, &places),
+        None => Picture::new(alloc, mesh, before, &places),
     }
 }
 
