@@ -50,7 +50,7 @@ at first. Blank lines and what follows a # are skipped. A line that is bad or re
 program with nothing drawn.
 
 Each half edge is an arrow beside its edge, on the side of its face. What a removal that is still
-open has given up is dashed and hatched, beside the mesh. A picture has no size: it fits its window.
+open has given up is dashed and hatched.
 
 Each line of the file for --places has the number of a vertex and its two coordinates, with blanks
 between them; the second coordinate goes up. A vertex without a place stands below the mesh, and an
@@ -58,9 +58,8 @@ edge that ends there isn't drawn.
 
 A page shows one line at a time, by arrow keys or a slider, and all of them where scripts don't run.
 What a line has changed is blue. All pictures have the same scale. A vertex keeps its place from
-line to line unless edges would cross; then those round them move, or all. A line that is refused has
-its reply there. A page takes time in proportion to what it draws, the whole mesh for each line; a
-terminal is shown how much is done. --places is refused for a page.";
+line to line unless the mesh can't be drawn so; then all may move. A line that is refused has its
+reply there. --places is refused for a page.";
 
 impl<'a> Arguments<'a> {
     /// Returns what the words say.

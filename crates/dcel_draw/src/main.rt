@@ -9,38 +9,30 @@
 
 mod arguments;
 mod fault;
-mod laying;
 mod page;
 mod placing;
 mod talk;
 
 use crate::arguments::{Arguments, PROGRAM};
 use crate::fault::{Fault, Wrong};
-use crate::laying::Laid;
 use crate::page::Page;
 use crate::placing::read_places;
 use crate::talk::talk_of;
-use dcel_programs::{Progress, Text, before_comment, numbered_lines, read_text, run, write_out};
+use dcel_programs::{Text, before_comment, numbered_lines, read_text, run, write_out};
 use dcel_replay::Replay;
-use dcel_svg::{Style, bow, spread, write_svg};
+use dcel_svg::{Picture, Places, Style, bow, spread, write_svg};
 use std::alloc::Global;
 use std::io::{self, Write};
 use std::process::ExitCode;
 use std::rt::Files;
 
 fn main(rt: HostRuntime) -> ExitCode {
-    let progress = Progress::at(&rt.stderr());
-    run(
-        &rt,
-        &PROGRAM,
-        |given| draw(&rt, progress, &Arguments::of(given)),
-    )
+    run(&rt, &PROGRAM, |given| draw(&rt, &Arguments::of(given)))
 }
 
 /// Reads the lines, and draws the mesh that they leave, or the mesh after each.
 fn draw(
-    rt: &(impl Files + Input + Print + Eprint + AllocGlobal),
-    progress: Progress,
+    rt: &(impl Files + Input + Print + AllocGlobal),
     arguments: &Arguments,
 ) -> Result<(), Fault> {
     let text = read_text(rt, arguments.file)?;
@@ -54,8 +46,7 @@ fn draw(
     if arguments.places.is_some() {
         return Err(Fault::Input(Wrong::PlacesOfPage));
     }
-    let steps = talk_of(rt.alloc(), &text)?;
-    let page = Page::new(rt, progress, steps, style)?;
+    let page = Page::new(rt.alloc(), talk_of(rt.alloc(), &text)?, style)?;
     write_out(rt, None, &page)
 }
 
@@ -66,10 +57,10 @@ fn draw_last(
     replay: &Replay,
     style: Style,
 ) -> Result<(), Fault> {
-    let laid = find_places(rt, file, replay)?;
+    let places = find_places(rt, file, replay)?;
     let drawn = Drawn {
         replay,
-        laid: &laid,
+        places: &places,
         style,
     };
     write_out(rt, None, &drawn)
@@ -96,30 +87,30 @@ fn find_places(
     rt: &(impl Files + Input + AllocGlobal),
     file: Option<&str>,
     replay: &Replay,
-) -> Result<Laid, Fault> {
-    let mesh = replay.mesh();
-    let places = match file {
-        None => spread(rt.alloc(), mesh, replay.before())?,
+) -> Result<Places, Fault> {
+    let (mesh, before) = (replay.mesh(), replay.before());
+    match file {
+        None => Ok(spread(rt.alloc(), mesh, before)?),
         Some(path) => {
             let mut places = read_places(rt, path, mesh)?;
-            bow(rt.alloc(), mesh, None, &mut places)?;
-            places
+            bow(rt.alloc(), mesh, before, &mut places)?;
+            Ok(places)
         }
-    };
-    Ok(Laid::of(rt.alloc(), replay, places)?)
+    }
 }
 
 /// A mesh, and how it is drawn.
 #[derive(Clone, Copy)]
 struct Drawn<'a> {
     replay: &'a Replay,
-    laid: &'a Laid,
+    places: &'a Places,
     style: Style,
 }
 
 impl<'a> Text for Drawn<'a> {
     fn write_to(&self, alloc: Global, writer: &mut impl Write) -> io::Result<()> {
-        let picture = self.laid.picture(alloc, self.replay)?;
+        let (mesh, before) = (self.replay.mesh(), self.replay.before());
+        let picture = Picture::new(alloc, mesh, before, self.places)?;
         write_svg(&picture, self.style, writer)
     }
 }

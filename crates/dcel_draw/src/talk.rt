@@ -3,6 +3,7 @@
 use dcel_commands::commands::{MAX_LIMIT, Refusal, Session, StdSink, Writer};
 use dcel_programs::{before_comment, numbered_lines};
 use dcel_replay::{Replay, Wrong};
+use dcel_svg::{Picture, Places};
 use std::alloc::{AllocError, Global};
 
 /// A line of a talk.
@@ -16,17 +17,12 @@ pub struct Step<'a> {
     pub reply: String,
     /// The mesh that it left.
     pub replay: Replay,
-    /// Whether it was bad or refused, and so has changed nothing.
-    pub is_wrong: bool,
 }
 
 impl<'a> Step<'a> {
-    /// Returns how many half edges, vertices and faces are drawn.
-    pub fn elements(&self) -> usize {
-        let mesh = self.replay.mesh();
-        mesh.num_directed_edges()
-            .saturating_add(mesh.num_vertices())
-            .saturating_add(mesh.num_faces())
+    /// Returns the picture of the mesh that the line left.
+    pub fn picture(&self, alloc: Global, places: &Places) -> Result<Picture, AllocError> {
+        Picture::new(alloc, self.replay.mesh(), self.replay.before(), places)
     }
 }
 
@@ -63,24 +59,21 @@ fn step_of<'a>(
     line: &'a str,
 ) -> Result<Step<'a>, AllocError> {
     let reply = reply_to(alloc, session, line)?;
-    let is_wrong = !carry_out(replay, line)?;
+    carry_out(replay, line)?;
     Ok(Step {
         number,
         line,
         reply,
         replay: replay.try_clone()?,
-        is_wrong,
     })
 }
 
-/// Has the mesh carry a line out, which changes nothing if it is bad or refused. Returns whether it
-/// is neither.
-fn carry_out(replay: &mut Replay, line: &str) -> Result<bool, AllocError> {
+/// Has the mesh carry a line out, which changes nothing if it is bad or refused.
+fn carry_out(replay: &mut Replay, line: &str) -> Result<(), AllocError> {
     match replay.take(line.as_bytes()) {
-        Ok(()) => Ok(true),
         Err(Wrong::OutOfMemory(error)) => Err(error),
         Err(Wrong::Refused(Refusal::OutOfMemory)) => Err(AllocError),
-        Err(_) => Ok(false),
+        _ => Ok(()),
     }
 }
 

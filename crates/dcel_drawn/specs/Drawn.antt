@@ -1,5 +1,5 @@
 -- What is drawn of a mesh, whose vertices stand at the places of a list.
-use Rattle.std.specs.Prelude.{◌≡◌, ◌*◌, ◌/◌, ◌&&◌, ℕ, Bool, List, Option, Some, None, All, filter, is_some, map, true, false}
+use Rattle.std.specs.Prelude.{◌≡◌, ◌*◌, ◌/◌, ℕ, List, Option, Some, None, All, map, true, false}
 use Rattle.std.specs.List.{slice_get}
 use Rattle.dcel_maps.specs.Numbers.{numbers_between}
 use Rattle.dcel_maps.specs.Shapes.{Mesh, IsLive, edge_is_live, end_of, face_count, face_of, face_is_live, origin_of, vertex_is_live}
@@ -47,12 +47,3 @@ module _ {V DE UE F : Type 0} where
     pub patches : All (IsPatch m) p.patches.items
     pub vertices : map (λ d. d.number) p.dots.items ≡ numbers_between 0 m.shape.vertices
     pub dots : All (IsDot m places) p.dots.items
-
-  -- a vertex that is live, and has a place of its own where something was given up
-  abbrev pub has_copy : Mesh V DE UE F → List (Option Place) → ℕ → Bool
-  has_copy m lain v = vertex_is_live m.shape v && is_some (entry_of lain v)
-
-  -- each of these vertices has one copy, at that place, in the order of their numbers
-  pub record AreCopies (m : Mesh V DE UE F) (lain : List (Option Place)) (copies : List Dot) : Type 0 where
-    pub vertices : map (λ d. d.number) copies ≡ filter (has_copy m lain) (numbers_between 0 m.shape.vertices)
-    pub dots : All (IsDot m lain) copies

@@ -1,11 +1,11 @@
 //! What is drawn of a mesh: a stroke for each half edge, a patch for each face, a dot for each
-//! vertex, and copies of vertices where a removal was.
+//! vertex.
 
-ghost use Rattle.std.specs.Prelude.{◌≡◌, ◌⊎◌, ◌*◌, IfOk, IfSome, IsNone, Some, None, All, [], map, filter, true, false};
+ghost use Rattle.std.specs.Prelude.{◌≡◌, ◌⊎◌, ◌*◌, IfOk, IfSome, IsNone, Some, None, All, map};
 ghost use Rattle.dcel_maps.specs.Numbers.{numbers_between};
 ghost use Rattle.dcel_maps.specs.Shapes.{IsLive, face_count};
 ghost use Rattle.spade_dcel.specs.Handles.{mesh_behind, number_of};
-ghost use Rattle.dcel_drawn.specs.Drawn.{AreCopies, IsDot, IsPatch, IsPicture, IsStroke, has_copy};
+ghost use Rattle.dcel_drawn.specs.Drawn.{IsDot, IsPatch, IsPicture, IsStroke};
 
 use crate::bend::Bend;
 use crate::place::Place;
@@ -106,9 +106,6 @@ pub struct Picture<B: Allocator = Global> {
     pub patches: Vec<Patch<B>, B>,
     /// A dot for each vertex, in the same order.
     pub dots: Vec<Dot, B>,
-    /// Dots for live vertices once more, where an open removal has given something up, if that is
-    /// drawn beside the mesh; in the same order.
-    pub copies: Vec<Dot, B>,
 }
 
 impl<B: Allocator + Copy> Picture<B> {
@@ -122,45 +119,15 @@ impl<B: Allocator + Copy> Picture<B> {
         before: Option<&Dcel<V, DE, UE, F, A>>,
         places: &Places<B>,
     ) -> Result<Self, AllocError>
-        ensures picture { IfOk result (IsPicture mesh.now places.now.vertices.items) }
-        ensures copies { IfOk result (λ picture. picture.copies.items ≡ []) }
+        ensures { IfOk result (IsPicture mesh.now places.now.vertices.items) }
     {
-        let strokes = strokes_of(alloc, mesh, before, places, places)?;
-        let patches = patches_of(alloc, mesh, before, places, places)?;
+        let strokes = strokes_of(alloc, mesh, before, places)?;
+        let patches = patches_of(alloc, mesh, before, places)?;
         let dots = dots_of(alloc, mesh, places)?;
         Ok(Picture {
             strokes,
             patches,
             dots,
-            copies: Vec::new(alloc),
-        })
-    }
-
-    /// Returns what is drawn of a mesh in which a removal is open, as [`new`](Self::new) does, but
-    /// what this has given up is drawn at places of its own: at those that `lain` gives to the
-    /// vertices and edges of the mesh `before`.
-    ///
-    /// A live vertex that has a place there too has a copy there. If memory runs out it returns
-    /// `AllocError`.
-    pub fn of_removal<V, DE, UE, F, A: Allocator>(
-        alloc: B,
-        mesh: &Dcel<V, DE, UE, F, A>,
-        before: &Dcel<V, DE, UE, F, A>,
-        lain: &Places<B>,
-        places: &Places<B>,
-    ) -> Result<Self, AllocError>
-        ensures picture { IfOk result (IsPicture mesh.now places.now.vertices.items) }
-        ensures copies { IfOk result (λ picture. AreCopies mesh.now lain.now.vertices.items picture.copies.items) }
-    {
-        let strokes = strokes_of(alloc, mesh, Some(before), lain, places)?;
-        let patches = patches_of(alloc, mesh, Some(before), lain, places)?;
-        let dots = dots_of(alloc, mesh, places)?;
-        let copies = copies_of(alloc, mesh, lain)?;
-        Ok(Picture {
-            strokes,
-            patches,
-            dots,
-            copies,
         })
     }
 }
@@ -170,7 +137,6 @@ fn strokes_of<V, DE, UE, F, A: Allocator, B: Allocator + Copy>(
     alloc: B,
     mesh: &Dcel<V, DE, UE, F, A>,
     before: Option<&Dcel<V, DE, UE, F, A>>,
-    lain: &Places<B>,
     places: &Places<B>,
 ) -> Result<Vec<Stroke, B>, AllocError>
     ensures numbers { IfOk result (λ strokes. map (λ s. s.number) strokes.items ≡ numbers_between 0 (2 * mesh.now.shape.edges)) }
@@ -179,7 +145,7 @@ fn strokes_of<V, DE, UE, F, A: Allocator, B: Allocator + Copy>(
     let mut strokes = Vec::new(alloc);
     for number in 0..mesh.num_directed_edges() {
         let edge = FixedDirectedEdgeHandle::new(number);
-        strokes.push(stroke_of(mesh, before, lain, places, edge))?;
+        strokes.push(stroke_of(mesh, before, places, edge))?;
     }
     Ok(strokes)
 }
@@ -188,14 +154,13 @@ fn strokes_of<V, DE, UE, F, A: Allocator, B: Allocator + Copy>(
 fn stroke_of<V, DE, UE, F, A: Allocator, B: Allocator>(
     mesh: &Dcel<V, DE, UE, F, A>,
     before: Option<&Dcel<V, DE, UE, F, A>>,
-    lain: &Places<B>,
     places: &Places<B>,
     edge: FixedDirectedEdgeHandle,
 ) -> Stroke
     ensures number { result.number ≡ edge }
     ensures is_stroke { IsStroke mesh.now places.now.vertices.items result }
 {
-    let undirected = edge.as_undirected().index();
+    let bend = places.bend(edge.as_undirected().index());
     let number = edge.index();
     match mesh.get_directed_edge(edge) {
         Some(half) => Stroke {
@@ -203,19 +168,19 @@ fn stroke_of<V, DE, UE, F, A: Allocator, B: Allocator>(
             state: State::Live,
             from: places.vertex(half.from().index()),
             to: places.vertex(half.to().index()),
-            bend: places.bend(undirected),
+            bend,
             face: Some(half.face().index()),
             anchors_vertex: mesh.vertex_out_edge(half.from().fix()) == Some(edge),
             anchors_face: is_anchor_of_face(half),
         },
         None => {
-            let [from, to] = ends_before(before, lain, edge);
+            let [from, to] = ends_before(before, places, edge);
             Stroke {
                 number,
                 state: State::GivenUp,
                 from,
                 to,
-                bend: lain.bend(undirected),
+                bend,
                 face: None,
                 anchors_vertex: false,
                 anchors_face: false,
@@ -258,7 +223,6 @@ fn patches_of<V, DE, UE, F, A: Allocator, B: Allocator + Copy>(
     alloc: B,
     mesh: &Dcel<V, DE, UE, F, A>,
     before: Option<&Dcel<V, DE, UE, F, A>>,
-    lain: &Places<B>,
     places: &Places<B>,
 ) -> Result<Vec<Patch<B>, B>, AllocError>
     ensures numbers { IfOk result (λ patches. map (λ f. f.number) patches.items ≡ numbers_between 0 (face_count mesh.now.shape)) }
@@ -267,7 +231,7 @@ fn patches_of<V, DE, UE, F, A: Allocator, B: Allocator + Copy>(
     let mut patches = Vec::new(alloc);
     for number in 0..mesh.num_faces() {
         let face = FixedFaceHandle::new(number);
-        let patch = patch_of(alloc, mesh, before, lain, places, face)?;
+        let patch = patch_of(alloc, mesh, before, places, face)?;
         patches.push(patch)?;
     }
     Ok(patches)
@@ -278,7 +242,6 @@ fn patch_of<V, DE, UE, F, A: Allocator, B: Allocator + Copy>(
     alloc: B,
     mesh: &Dcel<V, DE, UE, F, A>,
     before: Option<&Dcel<V, DE, UE, F, A>>,
-    lain: &Places<B>,
     places: &Places<B>,
     face: FixedFaceHandle<PossiblyOuterTag>,
 ) -> Result<Patch<B>, AllocError>
@@ -295,7 +258,7 @@ fn patch_of<V, DE, UE, F, A: Allocator, B: Allocator + Copy>(
         });
     }
     let outline = match before {
-        Some(before) => lines_round(alloc, before, lain, face)?,
+        Some(before) => lines_round(alloc, before, places, face)?,
         None => Vec::new(alloc),
     };
     Ok(Patch {
@@ -359,43 +322,4 @@ fn dot_of<V, DE, UE, F, A: Allocator, B: Allocator>(
         state,
         place: places.vertex(number),
     }
-}
-
-/// Lists the copies of the live vertices that have a place there.
-fn copies_of<V, DE, UE, F, A: Allocator, B: Allocator + Copy>(
-    alloc: B,
-    mesh: &Dcel<V, DE, UE, F, A>,
-    lain: &Places<B>,
-) -> Result<Vec<Dot, B>, AllocError>
-    ensures { IfOk result (λ copies. AreCopies mesh.now lain.now.vertices.items copies.items) }
-{
-    let mut copies = Vec::new(alloc);
-    for number in 0..mesh.num_vertices() {
-        let vertex = FixedVertexHandle::new(number);
-        if let Some(copy) = copy_of(mesh, lain, vertex) {
-            copies.push(copy)?;
-        }
-    }
-    Ok(copies)
-}
-
-/// Returns the copy of a vertex, if it is live and has a place there.
-fn copy_of<V, DE, UE, F, A: Allocator, B: Allocator>(
-    mesh: &Dcel<V, DE, UE, F, A>,
-    lain: &Places<B>,
-    vertex: FixedVertexHandle,
-) -> Option<Dot>
-    ensures number { IfSome result (λ copy. copy.number ≡ vertex) }
-    ensures is_dot { IfSome result (IsDot mesh.now lain.now.vertices.items) }
-    ensures some { IfSome result (λ copy. has_copy mesh.now lain.now.vertices.items vertex ≡ true) }
-    ensures none { IsNone result → has_copy mesh.now lain.now.vertices.items vertex ≡ false }
-{
-    let dot = dot_of(mesh, lain, vertex);
-    if !mesh.is_live_vertex(vertex) {
-        return None;
-    }
-    if dot.place.is_none() {
-        return None;
-    }
-    Some(dot)
 }

@@ -31,7 +31,7 @@ pub struct Extent {
     corners: Option<(Place, Place)>,
     /// How large the unit has to be, so that edges and inner faces are large enough.
     wanted: f64,
-    /// How many vertices one of the pictures has, with copies, at most.
+    /// How many vertices one of the pictures has, at most.
     vertices: usize,
     /// How many vertices of one of the pictures have no place, at most.
     aside: usize,
@@ -57,8 +57,7 @@ impl Extent {
     {
         self.corners = widened_to(self.corners, picture);
         self.wanted = wanted_scale(self.wanted, picture);
-        let drawn = picture.dots.len().saturating_add(picture.copies.len());
-        self.vertices = self.vertices.max(drawn);
+        self.vertices = self.vertices.max(picture.dots.len());
         self.aside = self.aside.max(count_aside(picture));
     }
 }
@@ -193,7 +192,7 @@ fn widened_to<B: Allocator>(
     picture: &Picture<B>,
 ) -> Option<(Place, Place)> {
     let mut corners = corners;
-    for dot in picture.dots.iter().chain(&picture.copies) {
+    for dot in &picture.dots {
         corners = widened(corners, dot.place);
     }
     for stroke in &picture.strokes {

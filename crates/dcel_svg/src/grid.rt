@@ -68,7 +68,7 @@ pub(crate) fn grid_places<B: Allocator + Copy>(
 ) -> Result<Option<Vec<Place, B>>, AllocError> {
     let mut grid = Grid {
         spots: Vec::new(alloc),
-        wings: wings_of(alloc, net.triangles.as_slice(), net.nodes)?,
+        wings: wings_of(alloc, net, net.nodes)?,
         ready: Vec::new(alloc),
     };
     for _ in 0..net.nodes {

@@ -1,210 +1,190 @@
 //! Places that a mesh keeps from those of another picture.
 
-use crate::border::{Side, are_clear};
-use crate::fresh::{Fresh, carried_places};
-use crate::layout::{Effort, Layout};
-use crate::net::{Net, net_of};
-use crate::spreading::{has_edge, set_live};
-use dcel_drawn::{Bend, Place, Places};
+use crate::bowing::bow;
+use crate::given_up::{set_aside, set_given_up};
+use crate::spreading::{has_edge, has_places, lies_well, spread};
+use dcel_drawn::{Place, Places};
 use spade_dcel::dcel::Dcel;
-use spade_dcel::handles::FixedUndirectedEdgeHandle;
+use spade_dcel::handles::{FixedFaceHandle, FixedUndirectedEdgeHandle, InnerTag};
 use std::alloc::{AllocError, Allocator};
 
-/// Finds places for the vertices of a mesh, as [`spread`](crate::spread) does, but keeps those of a
-/// picture of another mesh as far as edges don't cross there: `given` has the places of the `old` one.
+/// Up to how many edges are compared with one another.
+const COMPARED: usize = 600;
+
+/// How far an edge has to be from another, as a part of its length.
+const CLEAR: f64 = 0.04;
+
+/// Finds places for the vertices of a mesh, as [`spread`] does, but keeps those that are given if
+/// all of the mesh can be drawn there with straight edges.
 ///
-/// A vertex keeps its place if it has an edge in both meshes, and is the same by its number or by
-/// its half edges. Round what lies otherwise than in the old mesh vertices move, as few as are found
-/// to be enough; the border stays. If that isn't enough, all vertices get other places. It takes
-/// time in proportion to the mesh. If memory runs out it returns `AllocError`.
+/// They are kept if each vertex with an edge has one, each triangle goes round counterclockwise,
+/// and no edge crosses or touches another. What an open removal has given up stands among its
+/// neighbors of `before` where no place is given for it. Places of vertices without an edge are
+/// left out. With more than 600 edges the mesh gets places of its own. If memory runs out it
+/// returns `AllocError`.
 pub fn spread_near<V, DE, UE, F, A: Allocator, B: Allocator + Copy>(
     alloc: B,
     mesh: &Dcel<V, DE, UE, F, A>,
-    old: &Dcel<V, DE, UE, F, A>,
+    before: Option<&Dcel<V, DE, UE, F, A>>,
     given: &Places<B>,
 ) -> Result<Places<B>, AllocError> {
-    let mut places = carried(alloc, mesh, old, given)?;
-    if !is_kept(alloc, mesh, old, given, &mut places)? {
-        set_anew(alloc, mesh, &mut places)?;
+    let mut places = Places {
+        vertices: Vec::new(alloc),
+        bends: Vec::new(alloc),
+    };
+    for number in 0..mesh.num_vertices() {
+        let place = given
+            .vertex(number)
+            .filter(|_| is_drawn(mesh, before, number));
+        places.vertices.push(place)?;
     }
+    if !is_well_drawn(mesh, &places) || !are_clear(&sides_of(alloc, mesh, &places)?) {
+        return spread(alloc, mesh, before);
+    }
+    if let Some(before) = before {
+        if !has_places(before, &places) {
+            set_given_up(mesh, before, &mut places.vertices);
+        }
+        set_aside(mesh, before, &mut places.vertices);
+    }
+    bow(alloc, mesh, before, &mut places)?;
     Ok(places)
 }
 
-/// Returns the places of a mesh's vertices in a picture of the old one, and no arc.
-pub(crate) fn carried<V, DE, UE, F, A: Allocator, B: Allocator + Copy>(
-    alloc: B,
+/// Returns whether a vertex has an edge, or had one before.
+fn is_drawn<V, DE, UE, F, A: Allocator>(
     mesh: &Dcel<V, DE, UE, F, A>,
-    old: &Dcel<V, DE, UE, F, A>,
-    given: &Places<B>,
-) -> Result<Places<B>, AllocError> {
-    Ok(Places {
-        vertices: carried_places(alloc, mesh, old, given)?,
-        bends: Vec::new(alloc),
-    })
+    before: Option<&Dcel<V, DE, UE, F, A>>,
+    vertex: usize,
+) -> bool {
+    has_edge(mesh, vertex) || before.is_some_and(|before| has_edge(before, vertex))
 }
 
-/// Gives all vertices with an edge other places.
-pub(crate) fn set_anew<V, DE, UE, F, A: Allocator, B: Allocator + Copy>(
-    alloc: B,
+/// Returns whether vertices have places, and triangles go round counterclockwise, in a mesh that isn't
+/// too large to be compared.
+fn is_well_drawn<V, DE, UE, F, A: Allocator, B: Allocator>(
     mesh: &Dcel<V, DE, UE, F, A>,
-    places: &mut Places<B>,
-) -> Result<(), AllocError> {
-    places.vertices.fill(None);
-    places.bends.clear();
-    set_live(alloc, mesh, places, Effort::OneOfMany)
-}
-
-/// Gives places to all vertices with an edge, and arcs to edges, near to places that some vertices
-/// have. Returns whether that is enough.
-pub(crate) fn is_kept<V, DE, UE, F, A: Allocator, B: Allocator + Copy>(
-    alloc: B,
-    mesh: &Dcel<V, DE, UE, F, A>,
-    old: &Dcel<V, DE, UE, F, A>,
-    given: &Places<B>,
-    places: &mut Places<B>,
-) -> Result<bool, AllocError> {
-    let net = net_of(alloc, mesh)?;
-    let carried = places.vertices.as_slice();
-    let fresh = Fresh::of(alloc, mesh, old, given, carried, &net)?;
-    is_laid(alloc, mesh, &net, &fresh, given, places)
-}
-
-fn is_laid<V, DE, UE, F, A: Allocator, B: Allocator + Copy>(
-    alloc: B,
-    mesh: &Dcel<V, DE, UE, F, A>,
-    net: &Net<B>,
-    fresh: &Fresh<B>,
-    given: &Places<B>,
-    places: &mut Places<B>,
-) -> Result<bool, AllocError> {
-    let known = known_nodes(alloc, mesh, places.vertices.as_slice(), given, net, fresh)?;
-    let Some(layout) = Layout::near(alloc, net, known.as_slice(), fresh)? else {
-        return Ok(false);
-    };
-    if fresh.has_face(0) && !is_border_clear(alloc, mesh, net, &layout, fresh)? {
-        return Ok(false);
+    places: &Places<B>,
+) -> bool {
+    if mesh.num_undirected_edges() > COMPARED || !has_places(mesh, places) {
+        return false;
     }
-    set_vertices(mesh, &layout, &mut places.vertices);
-    set_arcs(mesh, net, &layout, given, fresh, &mut places.bends)?;
-    Ok(true)
-}
-
-/// Lists where the nodes of a net are known to be: vertices, and the tips of arcs that are kept.
-fn known_nodes<V, DE, UE, F, A: Allocator, B: Allocator + Copy>(
-    alloc: B,
-    mesh: &Dcel<V, DE, UE, F, A>,
-    vertices: &[Option<Place>],
-    given: &Places<B>,
-    net: &Net<B>,
-    fresh: &Fresh<B>,
-) -> Result<Vec<Option<Place>, B>, AllocError> {
-    let mut known = Vec::new(alloc);
-    for place in vertices {
-        known.push(*place)?;
-    }
-    for _ in known.len()..net.ring {
-        known.push(None)?;
-    }
-    for edge in 0..mesh.num_undirected_edges() {
-        if let (Some(node), Some(bend)) = (net.bend(edge), given.bend(edge)) {
-            let half = FixedUndirectedEdgeHandle::new(edge).as_directed();
-            if let (false, Some(place)) = (fresh.has_half_edge(half.index()), known.get_mut(node)) {
-                *place = Some(bend.tip);
-            }
+    for number in 1..mesh.num_faces() {
+        let face: FixedFaceHandle<InnerTag> = FixedFaceHandle::new(number);
+        if !lies_well(mesh, face, places) {
+            return false;
         }
     }
-    Ok(known)
+    true
 }
 
-/// Returns whether what is drawn anew on the border of a mesh keeps clear of the rest of it.
-fn is_border_clear<V, DE, UE, F, A: Allocator, B: Allocator + Copy>(
-    alloc: B,
-    mesh: &Dcel<V, DE, UE, F, A>,
-    net: &Net<B>,
-    layout: &Layout<B>,
-    fresh: &Fresh<B>,
-) -> Result<bool, AllocError> {
-    let sides = border_of(alloc, mesh, net, layout, fresh)?;
-    Ok(are_clear(sides.as_slice()))
+/// A straight edge between two vertices.
+#[derive(Clone, Copy)]
+struct Side {
+    vertices: [usize; 2],
+    from: Place,
+    to: Place,
 }
 
-/// Lists the ways of the edges on the border of a mesh, two for an arc.
-fn border_of<V, DE, UE, F, A: Allocator, B: Allocator + Copy>(
+/// Lists the live edges of a mesh whose ends have places.
+fn sides_of<V, DE, UE, F, A: Allocator, B: Allocator + Copy>(
     alloc: B,
     mesh: &Dcel<V, DE, UE, F, A>,
-    net: &Net<B>,
-    layout: &Layout<B>,
-    fresh: &Fresh<B>,
+    places: &Places<B>,
 ) -> Result<Vec<Side, B>, AllocError> {
     let mut sides = Vec::new(alloc);
     for number in 0..mesh.num_undirected_edges() {
         let half = FixedUndirectedEdgeHandle::new(number).as_directed();
         if let Some(edge) = mesh.get_directed_edge(half) {
-            if edge.face().index() == 0 || edge.rev().face().index() == 0 {
-                let is_fresh = fresh.has_half_edge(half.index());
-                let (from, to) = (edge.from().index(), edge.to().index());
-                let middle = net.bend(number).unwrap_or(to);
-                sides.push(side_of(layout, [from, middle], is_fresh))?;
-                if middle != to {
-                    sides.push(side_of(layout, [middle, to], is_fresh))?;
-                }
+            let (from, to) = (edge.from().index(), edge.to().index());
+            if let (Some(start), Some(end)) = (places.vertex(from), places.vertex(to)) {
+                sides.push(Side {
+                    vertices: [from, to],
+                    from: start,
+                    to: end,
+                })?;
             }
         }
     }
     Ok(sides)
 }
 
-fn side_of<B: Allocator + Copy>(layout: &Layout<B>, nodes: [usize; 2], is_fresh: bool) -> Side {
-    let [from, to] = nodes;
-    Side {
-        nodes,
-        from: layout.place(from),
-        to: layout.place(to),
-        is_fresh,
-    }
-}
-
-fn set_vertices<V, DE, UE, F, A: Allocator, B: Allocator + Copy>(
-    mesh: &Dcel<V, DE, UE, F, A>,
-    layout: &Layout<B>,
-    places: &mut [Option<Place>],
-) {
-    for (number, place) in places.iter_mut().enumerate() {
-        *place = if has_edge(mesh, number) {
-            Some(layout.place(number))
-        } else {
-            None
-        };
-    }
-}
-
-/// Lists the arcs of edges: those of before where nothing round them has changed.
-fn set_arcs<V, DE, UE, F, A: Allocator, B: Allocator + Copy>(
-    mesh: &Dcel<V, DE, UE, F, A>,
-    net: &Net<B>,
-    layout: &Layout<B>,
-    given: &Places<B>,
-    fresh: &Fresh<B>,
-    bends: &mut Vec<Option<Bend>, B>,
-) -> Result<(), AllocError> {
-    for number in 0..mesh.num_undirected_edges() {
-        let half = FixedUndirectedEdgeHandle::new(number).as_directed();
-        let mut bend = None;
-        if let (Some(edge), Some(node)) = (mesh.get_directed_edge(half), net.bend(number)) {
-            let is_kept = !layout.is_moved_round(node)
-                && !fresh.has_face(edge.face().index())
-                && !fresh.has_face(edge.rev().face().index());
-            let found = layout.arc(edge.from().index(), edge.to().index(), node);
-            bend = Some(match given.bend(number) {
-                Some(given) if is_kept => given,
-                Some(given) => Bend {
-                    cut: found.cut.min(given.cut),
-                    ..found
-                },
-                None => found,
-            });
+/// Returns whether no edge touches another but at a vertex of both.
+fn are_clear(sides: &[Side]) -> bool {
+    for (number, side) in sides.iter().enumerate() {
+        if side.touches_one_of(sides, number) {
+            return false;
         }
-        bends.push(bend)?;
     }
-    Ok(())
+    true
+}
+
+impl Side {
+    /// Returns whether the edge touches one of the first of these but at a vertex of both.
+    fn touches_one_of(self, sides: &[Side], count: usize) -> bool {
+        for other in sides.iter().take(count) {
+            if self.touches(*other) {
+                return true;
+            }
+        }
+        false
+    }
+
+    fn way(self) -> Place {
+        self.to.minus(self.from)
+    }
+
+    /// Returns the same edge from the other end.
+    fn turned(self) -> Side {
+        let [first, second] = self.vertices;
+        Side {
+            vertices: [second, first],
+            from: self.to,
+            to: self.from,
+        }
+    }
+
+    /// Returns whether two edges touch but at a vertex of both, or all but do.
+    fn touches(self, other: Side) -> bool {
+        let [first, second] = self.vertices;
+        let [third, fourth] = other.vertices;
+        match (
+            first == third || first == fourth,
+            second == third || second == fourth,
+        ) {
+            (true, true) => true,
+            (true, false) => lies_along(self.way(), other.way_from(first)),
+            (false, true) => lies_along(self.turned().way(), other.way_from(second)),
+            (false, false) => !self.is_clear_of(other) && !other.is_clear_of(self),
+        }
+    }
+
+    /// Returns the way from one of the edge's vertices to the other one.
+    fn way_from(self, vertex: usize) -> Place {
+        if self.vertices[0] == vertex {
+            self.way()
+        } else {
+            self.turned().way()
+        }
+    }
+
+    /// Returns whether another edge lies on one side of the line through this one, or on this line
+    /// beyond one of its ends.
+    fn is_clear_of(self, other: Side) -> bool {
+        let way = self.way();
+        let least = CLEAR * way.dot(way);
+        let (near, far) = (other.from.minus(self.from), other.to.minus(self.from));
+        let (left, right) = (way.cross(near), way.cross(far));
+        let (along, beyond) = (way.dot(near), way.dot(far));
+        left.min(right) > least
+            || left.max(right) < -least
+            || along.max(beyond) < -least
+            || along.min(beyond) > way.dot(way) + least
+    }
+}
+
+/// Returns whether two ways from one vertex all but lie on one another.
+fn lies_along(way: Place, other: Place) -> bool {
+    let turn = way.cross(other);
+    way.dot(other) > 0.0 && turn.max(-turn) < CLEAR * way.length() * other.length()
 }

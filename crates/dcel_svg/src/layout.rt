@@ -1,11 +1,9 @@
 //! Places for the nodes of a net, and arcs over them.
 
-use crate::fresh::Fresh;
 use crate::grid::grid_places;
 use crate::net::Net;
 use crate::place::at;
 use crate::relaxing::{level, relax, ring_places, wanted_area};
-use crate::settling::Settling;
 use crate::wings::{Wings, wings_of};
 use dcel_drawn::{Bend, Place};
 use std::alloc::{AllocError, Allocator};
@@ -24,96 +22,38 @@ const MOST: usize = 4000;
 /// Twice the area that each triangle must have before it is relaxed.
 const LEAST: f64 = 1e-13;
 
-/// The most where a picture is one of many.
-const MOST_OF_MANY: usize = 200;
-
 /// How much of its room the curve of an arc may take.
 const TAKEN: f64 = 0.8;
-
-/// How long a layout may take.
-#[derive(Clone, Copy)]
-pub(crate) enum Effort {
-    /// About as long for few nodes as for many.
-    Alone,
-    /// In proportion to the nodes, since there are many layouts.
-    OneOfMany,
-}
 
 /// The nodes of a net, with places at which no triangle is turned over.
 #[derive(Drop)]
 pub(crate) struct Layout<B: Allocator> {
     places: Vec<Place, B>,
     wings: Wings<B>,
-    is_moved: Vec<bool, B>,
 }
 
 impl<B: Allocator + Copy> Layout<B> {
     /// Finds places for the nodes of a net: on a circle and inside it, or on a grid if there the
     /// triangles are too small for the numbers.
-    pub fn of(alloc: B, net: &mut Net<B>, effort: Effort) -> Result<Self, AllocError> {
-        let (leveled, relaxed) = match effort {
-            Effort::Alone => (MOVES / net.nodes.max(1), MOST),
-            Effort::OneOfMany => (LEVELING, MOST_OF_MANY),
-        };
+    pub fn of(alloc: B, net: &mut Net<B>) -> Result<Self, AllocError> {
+        let rounds = MOVES / net.nodes.max(1);
         let mut places = ring_places(alloc, net)?;
-        let mut wings = wings_of(alloc, net.triangles.as_slice(), net.ring)?;
-        level(&wings, &mut places, leveled.max(LEVELING));
+        let mut wings = wings_of(alloc, net, net.ring)?;
+        level(&wings, &mut places, rounds.max(LEVELING));
         if !is_plain(net, places.as_slice()) {
             net.close()?;
             if let Some(found) = grid_places(alloc, net)? {
                 places = found;
-                wings = wings_of(alloc, net.triangles.as_slice(), net.ring)?;
+                wings = wings_of(alloc, net, net.ring)?;
             }
         }
         relax(
             &wings,
             &mut places,
             wanted_area(net),
-            (MOVES / net.nodes.max(1) / 2).max(FEWEST).min(relaxed),
+            (rounds / 2).max(FEWEST).min(MOST),
         );
-        Ok(Layout {
-            places,
-            wings,
-            is_moved: Vec::new(alloc),
-        })
-    }
-
-    /// Keeps the places that are known, and finds others for those nodes alone that have none, or
-    /// are round faces that are drawn anew and don't lie well there. None if that isn't enough.
-    pub fn near(
-        alloc: B,
-        net: &Net<B>,
-        known: &[Option<Place>],
-        fresh: &Fresh<B>,
-    ) -> Result<Option<Self>, AllocError> {
-        let wings = wings_of(alloc, net.inside(), net.ring)?;
-        match settled(alloc, net, &wings, known, fresh)? {
-            Some((places, is_moved)) => Ok(Some(Layout {
-                places,
-                wings,
-                is_moved,
-            })),
-            None => Ok(None),
-        }
-    }
-
-    /// Returns whether a node, or one of those round it, has found a place near to the known ones.
-    pub fn is_moved_round(&self, node: usize) -> bool {
-        if self.is_moved(node) {
-            return true;
-        }
-        if let Some(star) = self.wings.get(node) {
-            for wing in star {
-                if self.is_moved(wing.near) || self.is_moved(wing.far) {
-                    return true;
-                }
-            }
-        }
-        false
-    }
-
-    fn is_moved(&self, node: usize) -> bool {
-        self.is_moved.get(node) == Some(&true)
+        Ok(Layout { places, wings })
     }
 
     /// Returns the place of a node.
@@ -141,24 +81,6 @@ impl<B: Allocator + Copy> Layout<B> {
             }
         }
         Bend { tip, cut }
-    }
-}
-
-/// Returns places for the nodes of a net near those that are known, and which have moved.
-fn settled<B: Allocator + Copy>(
-    alloc: B,
-    net: &Net<B>,
-    wings: &Wings<B>,
-    known: &[Option<Place>],
-    fresh: &Fresh<B>,
-) -> Result<Option<(Vec<Place, B>, Vec<bool, B>)>, AllocError> {
-    let Some(mut settling) = Settling::of(alloc, net, wings, known, fresh)? else {
-        return Ok(None);
-    };
-    if settling.settle(alloc, fresh)? {
-        Ok(Some(settling.into_places()))
-    } else {
-        Ok(None)
     }
 }
 

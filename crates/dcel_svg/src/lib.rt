@@ -3,33 +3,28 @@
 //!
 //! A mesh has no coordinates. [`spread`] finds places for its vertices. A [`Picture`] has a stroke
 //! for each half edge, a patch for each face and a dot for each vertex, and [`write_svg`] writes
-//! it. What an open removal has given up is drawn beside the mesh: [`lay_beside`] finds its places. From one picture to the next [`spread_near`] keeps places, and [`Marks`] say what has
+//! it. From one picture to the next [`spread_near`] keeps places, and [`Marks`] say what has
 //! changed; pictures that share a [`Frame`] have each place at the same point of the page.
 #![tactic(auto)]
 
 mod bends;
-mod beside;
-mod border;
 mod bowing;
 mod curve;
 mod frame;
-mod fresh;
+mod given_up;
 mod grid;
 mod keeping;
 mod layout;
 mod marks;
-mod middle;
 mod net;
 mod place;
 mod reading;
 mod relaxing;
 mod rows;
-mod settling;
 mod spreading;
 mod svg;
 mod wings;
 
-pub use beside::lay_beside;
 pub use bowing::bow;
 pub use dcel_drawn::{Bend, Dot, Line, Patch, Picture, Place, Places, State, Stroke};
 pub use frame::{Extent, Frame};

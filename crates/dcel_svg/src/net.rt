@@ -5,8 +5,7 @@
 //! round it all. So each node that isn't on the ring is inside, whatever the outer face looks like.
 
 use crate::bends::ranks;
-use crate::place::at;
-use dcel_drawn::{Place, round};
+use dcel_drawn::round;
 use spade_dcel::dcel::Dcel;
 use spade_dcel::handles::{FixedFaceHandle, OUTER_FACE, PossiblyOuterTag};
 use std::alloc::{AllocError, Allocator};
@@ -16,17 +15,8 @@ use std::alloc::{AllocError, Allocator};
 pub(crate) struct Net<B: Allocator> {
     /// The node in the middle of each edge that bends.
     bends: Vec<Option<usize>, B>,
-    /// The triangles, counterclockwise, those inside the mesh first.
+    /// The triangles, counterclockwise.
     pub triangles: Vec<Triangle, B>,
-    /// How many of them lie inside.
-    inside: usize,
-    /// Whether each node below those of the ring is on the border of the mesh.
-    is_border: Vec<bool, B>,
-    /// How many nodes are vertices, which come first.
-    vertices: usize,
-    /// The first node in the middle of a face, and the faces that have one, in order.
-    first_middle: usize,
-    middles: Vec<usize, B>,
     /// The first node of those round all others, which have the greatest numbers: of the ring,
     /// clockwise, or of the three corners of a closed net.
     pub ring: usize,
@@ -41,8 +31,6 @@ pub(crate) struct Triangle {
     pub nodes: [usize; 3],
     /// Whether it lies inside the mesh, and not between the mesh and the ring.
     pub is_inside: bool,
-    /// The face that it is a part of.
-    pub face: usize,
 }
 
 /// Makes the live part of a mesh a net.
@@ -53,11 +41,6 @@ pub(crate) fn net_of<V, DE, UE, F, A: Allocator, B: Allocator + Copy>(
     let mut net = Net {
         bends: Vec::new(alloc),
         triangles: Vec::new(alloc),
-        inside: 0,
-        is_border: Vec::new(alloc),
-        vertices: mesh.num_vertices(),
-        first_middle: 0,
-        middles: Vec::new(alloc),
         ring: 0,
         nodes: mesh.num_vertices(),
     };
@@ -69,14 +52,11 @@ pub(crate) fn net_of<V, DE, UE, F, A: Allocator, B: Allocator + Copy>(
         };
         net.bends.push(bend)?;
     }
-    net.first_middle = net.nodes;
     for number in 1..mesh.num_faces() {
         let corners = net.nodes_round(alloc, mesh, FixedFaceHandle::new(number))?;
-        net.fill(corners.as_slice(), number)?;
+        net.fill(corners.as_slice())?;
     }
-    net.inside = net.triangles.len();
     let corners = net.nodes_round(alloc, mesh, OUTER_FACE)?;
-    net.set_border(corners.as_slice())?;
     net.surround(corners.as_slice())?;
     Ok(net)
 }
@@ -88,63 +68,9 @@ impl<B: Allocator + Copy> Net<B> {
         node
     }
 
-    fn push(&mut self, nodes: [usize; 3], face: usize) -> Result<(), AllocError> {
-        self.triangles.push(Triangle {
-            nodes,
-            is_inside: face > 0,
-            face,
-        })?;
+    fn push(&mut self, nodes: [usize; 3], is_inside: bool) -> Result<(), AllocError> {
+        self.triangles.push(Triangle { nodes, is_inside })?;
         Ok(())
-    }
-
-    /// Notes which nodes are on the border.
-    fn set_border(&mut self, corners: &[usize]) -> Result<(), AllocError> {
-        for _ in 0..self.nodes {
-            self.is_border.push(false)?;
-        }
-        for corner in corners {
-            if let Some(entry) = self.is_border.get_mut(*corner) {
-                *entry = true;
-            }
-        }
-        Ok(())
-    }
-
-    /// Returns whether a node is on the border of the mesh.
-    pub fn is_border(&self, node: usize) -> bool {
-        self.is_border.get(node) == Some(&true)
-    }
-
-    /// Returns the face in whose middle a node is, if it is one of these.
-    pub fn face_of_middle(&self, node: usize) -> Option<usize> {
-        let number = node.checked_sub(self.first_middle)?;
-        self.middles.get(number).copied()
-    }
-
-    /// Returns whether all corners of a triangle are vertices.
-    pub fn has_vertices(&self, triangle: Triangle) -> bool {
-        let [a, b, c] = triangle.nodes;
-        a.max(b).max(c) < self.vertices
-    }
-
-    /// Lends the triangles inside the mesh.
-    pub fn inside(&self) -> &[Triangle] {
-        self.triangles.get(..self.inside).unwrap_or(&[])
-    }
-
-    /// Returns the middle of the areas of the triangles inside the mesh.
-    pub fn mean_area(&self, places: &[Place]) -> f64 {
-        let (mut sum, mut count) = (0.0, 0.0);
-        for triangle in self.inside() {
-            let [a, b, c] = triangle.nodes;
-            let (near, far) = (
-                at(places, b).minus(at(places, a)),
-                at(places, c).minus(at(places, a)),
-            );
-            sum += near.cross(far).max(0.0) / 2.0;
-            count += 1.0;
-        }
-        if count > 0.0 { sum / count } else { 0.0 }
     }
 
     /// Returns the node in the middle of an edge, if it bends.
@@ -173,18 +99,17 @@ impl<B: Allocator + Copy> Net<B> {
     }
 
     /// Fills an inner face by one triangle, or by several round a node in its middle.
-    fn fill(&mut self, corners: &[usize], face: usize) -> Result<(), AllocError> {
+    fn fill(&mut self, corners: &[usize]) -> Result<(), AllocError> {
         if let [a, b, c] = corners {
-            return self.push([*a, *b, *c], face);
+            return self.push([*a, *b, *c], true);
         }
         let Some(last) = corners.last() else {
             return Ok(());
         };
         let middle = self.new_node();
-        self.middles.push(face)?;
         let mut before = *last;
         for corner in corners {
-            self.push([before, *corner, middle], face)?;
+            self.push([before, *corner, middle], true)?;
             before = *corner;
         }
         Ok(())
@@ -196,7 +121,7 @@ impl<B: Allocator + Copy> Net<B> {
         let top = self.new_node();
         let mut before = top.saturating_sub(1);
         for node in self.ring..top {
-            self.push([before, node, top], 0)?;
+            self.push([before, node, top], false)?;
             before = node;
         }
         self.ring = self.nodes.saturating_sub(3);
@@ -220,8 +145,8 @@ impl<B: Allocator + Copy> Net<B> {
         let mut outside = self.nodes.saturating_add(corners.len()).saturating_sub(1);
         for corner in corners {
             let next = self.new_node();
-            self.push([before, *corner, next], 0)?;
-            self.push([before, next, outside], 0)?;
+            self.push([before, *corner, next], false)?;
+            self.push([before, next, outside], false)?;
             before = *corner;
             outside = next;
         }

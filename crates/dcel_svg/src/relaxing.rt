@@ -42,8 +42,13 @@ pub(crate) fn ring_places<B: Allocator + Copy>(
 pub(crate) fn level<B: Allocator>(wings: &Wings<B>, places: &mut [Place], rounds: usize) {
     for _ in 0..rounds {
         let mut longest: f64 = 0.0;
-        for node in 0..wings.len() {
-            longest = level_node(wings, places, node).max(longest);
+        for (node, star) in wings.iter().enumerate() {
+            if let (Some(middle), Some(place)) = (middle_of(star, places), places.get_mut(node)) {
+                // Farther than to the middle, since moves of this length settle sooner.
+                let way = middle.minus(*place).times(1.6);
+                *place = place.plus(way);
+                longest = way.dot(way).max(longest);
+            }
         }
         if longest < 1e-24 {
             break;
@@ -51,21 +56,8 @@ pub(crate) fn level<B: Allocator>(wings: &Wings<B>, places: &mut [Place], rounds
     }
 }
 
-/// Moves a node into the middle of its neighbors. Returns the square of the way.
-pub(crate) fn level_node<B: Allocator>(wings: &Wings<B>, places: &mut [Place], node: usize) -> f64 {
-    let middle = middle_of(wings, node, places);
-    if let (Some(middle), Some(place)) = (middle, places.get_mut(node)) {
-        // Farther than to the middle, since moves of this length settle sooner.
-        let way = middle.minus(*place).times(1.6);
-        *place = place.plus(way);
-        return way.dot(way);
-    }
-    0.0
-}
-
 /// Returns the middle of the nodes round a node, if there are any.
-fn middle_of<B: Allocator>(wings: &Wings<B>, node: usize, places: &[Place]) -> Option<Place> {
-    let star = wings.get(node)?;
+fn middle_of(star: &[Wing], places: &[Place]) -> Option<Place> {
     let mut sum = Place::new(0.0, 0.0);
     for wing in star {
         let (near, far) = wing.corners(places);
@@ -97,41 +89,20 @@ pub(crate) fn relax<B: Allocator>(
 ) {
     for _ in 0..rounds {
         let mut longest: f64 = 0.0;
-        for node in 0..wings.len() {
-            longest = relax_node(wings, places, node, area).max(longest);
+        for (node, star) in wings.iter().enumerate() {
+            let here = at(places, node);
+            if let Some(better) = better_place(star, places, here, area) {
+                let way = better.minus(here);
+                longest = way.dot(way).max(longest);
+                if let Some(place) = places.get_mut(node) {
+                    *place = better;
+                }
+            }
         }
         if longest < SETTLED {
             break;
         }
     }
-}
-
-/// Moves a node to where its triangles are better, if such a place is found. Returns the square of
-/// the way.
-pub(crate) fn relax_node<B: Allocator>(
-    wings: &Wings<B>,
-    places: &mut [Place],
-    node: usize,
-    area: f64,
-) -> f64 {
-    let here = at(places, node);
-    let better = better_at(wings, node, places, here, area);
-    if let (Some(better), Some(place)) = (better, places.get_mut(node)) {
-        *place = better;
-        let way = better.minus(here);
-        return way.dot(way);
-    }
-    0.0
-}
-
-fn better_at<B: Allocator>(
-    wings: &Wings<B>,
-    node: usize,
-    places: &[Place],
-    here: Place,
-    area: f64,
-) -> Option<Place> {
-    better_place(wings.get(node)?, places, here, area)
 }
 
 /// Returns a place near `here` for a node with these triangles that costs less, if one is found.

@@ -45,9 +45,8 @@ text { font-family: 'DejaVu Sans', Verdana, sans-serif; text-anchor: middle; }
 .face { font-size: 13px; font-weight: bold; fill: #0b4f8a; }
 .gone { stroke-dasharray: 5 4; stroke: #a23b3b; fill: none; }
 .vertex.gone { fill: #ffffff; }
-.copy { fill: #f4f2ed; stroke: #8b8b8b; stroke-width: 1.1; }
 .over { fill: #a23b3b; }
-.hatch { fill: url(#hatch); stroke: #c98b8b; stroke-width: .8; }
+.hatch { fill: url(#hatch); stroke: none; }
 .anchor { fill: #222222; stroke: none; }
 .c0 { fill: #fbe3c0; } .c1 { fill: #cfe8d5; } .c2 { fill: #d6dcf5; } .c3 { fill: #f6d3d6; }
 .c4 { fill: #d3eef2; } .c5 { fill: #f3f0bd; } .c6 { fill: #e6d5ee; }
@@ -79,8 +78,7 @@ const STYLE_OF_MARKS: &str = "\
 ///
 /// In the style of half edges each is an arrow beside its edge, on the side of its face, with its number; faces are
 /// areas with their numbers after an F, and the outer face, F0, is all around them. What an open
-/// removal has given up is dashed and hatched, with copies of the vertices round it. Vertices without a place stand below. The document
-/// has a `viewBox` and no size, so it is drawn as large as there is room for it.
+/// removal has given up is dashed and hatched. Vertices without a place stand below.
 ///
 /// Fails if a write fails or memory runs out; a part may be written by then.
 pub fn write_svg<B: Allocator + Copy>(
@@ -89,52 +87,27 @@ pub fn write_svg<B: Allocator + Copy>(
     out: &mut impl Write,
 ) -> io::Result<()> {
     let marks = Marks::none(*picture.strokes.allocator());
-    let frame = Frame::around(picture, style);
-    write_root(&frame, out)?;
-    writeln!(out, ">")?;
-    write_inside(picture, &frame, &marks, out)
+    write_marked_svg(picture, &Frame::around(picture, style), &marks, out)
 }
 
 /// Does the same in a frame that other pictures may share, and marks half edges and vertices in the
-/// style of half edges. The document has the size of the frame, so all these pictures are drawn at
-/// one scale. A picture that the frame wasn't made for may leave the page.
+/// style of half edges. A picture that the frame wasn't made for may leave the page.
 pub fn write_marked_svg<B: Allocator + Copy>(
     picture: &Picture<B>,
     frame: &Frame,
     marks: &Marks<B>,
     out: &mut impl Write,
 ) -> io::Result<()> {
-    let size = frame.size();
-    write_root(frame, out)?;
+    let (style, corner, size) = (frame.style, frame.corner(), frame.size());
     writeln!(
         out,
-        " width=\"{}\" height=\"{}\">",
+        "<svg xmlns=\"http://www.w3.org/2000/svg\" viewBox=\"{} {} {}\" width=\"{}\" height=\"{}\">",
+        At(corner),
+        Tenths(size.x),
+        Tenths(size.y),
         Tenths(size.x),
         Tenths(size.y)
     )?;
-    write_inside(picture, frame, marks, out)
-}
-
-/// Writes the beginning of the root, which says what part of the plane is shown.
-fn write_root(frame: &Frame, out: &mut impl Write) -> io::Result<()> {
-    let size = frame.size();
-    write!(
-        out,
-        "<svg xmlns=\"http://www.w3.org/2000/svg\" viewBox=\"{} {} {}\"",
-        At(frame.corner()),
-        Tenths(size.x),
-        Tenths(size.y)
-    )
-}
-
-/// Writes all that is inside the root, and its end.
-fn write_inside<B: Allocator + Copy>(
-    picture: &Picture<B>,
-    frame: &Frame,
-    marks: &Marks<B>,
-    out: &mut impl Write,
-) -> io::Result<()> {
-    let style = frame.style;
     match style {
         Style::HalfEdges { anchors } => write_half_edges(picture, frame, anchors, marks, out)?,
         Style::Edges => {

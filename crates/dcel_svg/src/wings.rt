@@ -1,6 +1,6 @@
 //! The triangles of a net, seen from each of their corners.
 
-use crate::net::Triangle;
+use crate::net::Net;
 use crate::place::at;
 use dcel_drawn::Place;
 use std::alloc::{AllocError, Allocator};
@@ -23,17 +23,17 @@ impl Wing {
 /// The triangles round each node.
 pub(crate) type Wings<B> = Vec<Vec<Wing, B>, B>;
 
-/// Lists those of some triangles that are round each of the first so many nodes.
+/// Lists the triangles round each of the first so many nodes.
 pub(crate) fn wings_of<B: Allocator + Copy>(
     alloc: B,
-    triangles: &[Triangle],
+    net: &Net<B>,
     count: usize,
 ) -> Result<Wings<B>, AllocError> {
     let mut wings: Wings<B> = Vec::new(alloc);
     for _ in 0..count {
         wings.push(Vec::new(alloc))?;
     }
-    for triangle in triangles {
+    for triangle in &net.triangles {
         let [a, b, c] = triangle.nodes;
         for (node, near, far) in [(a, b, c), (b, c, a), (c, a, b)] {
             if let Some(list) = wings.get_mut(node) {

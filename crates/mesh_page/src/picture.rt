@@ -7,7 +7,7 @@ use dcel_commands::commands::Refusal;
 use dcel_exports::put;
 use dcel_exports::status::NO_MEMORY;
 use dcel_replay::{Replay, Wrong};
-use dcel_svg::{Picture, Style, lay_beside, spread, write_svg};
+use dcel_svg::{Picture, Style, spread, write_svg};
 use dcel_text::lines::split_line;
 use lent_heap::{Heap, Memory};
 use std::alloc::{AllocError, Allocator};
@@ -45,23 +45,12 @@ pub extern "C" fn mesh_page_picture(
 /// Returns the SVG of the mesh that the lines leave.
 fn drawn<A: Allocator + Copy>(alloc: A, lines: &[u8], style: Style) -> io::Result<Vec<u8, A>> {
     let replay = replayed(alloc, lines)?;
-    let picture = picture_of(alloc, &replay)?;
+    let (mesh, before) = (replay.mesh(), replay.before());
+    let places = spread(alloc, mesh, before)?;
+    let picture = Picture::new(alloc, mesh, before, &places)?;
     let mut text = Vec::new(alloc);
     write_svg(&picture, style, &mut text)?;
     Ok(text)
-}
-
-/// Returns what is drawn of the mesh, and of what an open removal has given up.
-fn picture_of<A: Allocator + Copy>(alloc: A, replay: &Replay<A>) -> Result<Picture<A>, AllocError> {
-    let (mesh, before) = (replay.mesh(), replay.before());
-    let mut places = spread(alloc, mesh, before)?;
-    match before {
-        Some(before) => {
-            let lain = lay_beside(alloc, mesh, before, &mut places)?;
-            Picture::of_removal(alloc, mesh, before, &lain, &places)
-        }
-        None => Picture::new(alloc, mesh, before, &places),
-    }
 }
 
 /// Carries the lines out, as long as there is memory for each.

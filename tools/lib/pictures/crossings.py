@@ -8,8 +8,6 @@ import re
 from itertools import combinations, pairwise
 
 EDGE = re.compile(r'<path class="edge" d="([^"]*)"/>')
-GONE = re.compile(r'<path class="edge gone" d="([^"]*)"/>')
-HATCH = re.compile(r'<path class="hatch" d="([^"]*)"/>')
 STEP = re.compile(r"([MLQ])([-\d. ]+)")
 
 # How often an arc is halved. Its points are then whole numbers of a quarter as many tenths for each time.
@@ -125,23 +123,6 @@ def crossing_faults(picture):
             yield f"edges {place} and {other} of those drawn cross"
 
 
-def do_meet_somewhere(first, second):
-    """Whether two ways have any point in common."""
-    return any(do_meet(ours, theirs) for ours in first for theirs in second)
-
-
-def dashed_faults(picture):
-    """The edges that are given up and cross one another, or meet a live one, and faces that are given up and whose sides do."""
-    live, gone, hatched = ([pieces_of(way) for way in kind.findall(picture)] for kind in (EDGE, GONE, HATCH))
-    for (place, first), (other, second) in combinations(enumerate(gone), 2):
-        if first and second and do_cross(first, second):
-            yield f"edges {place} and {other} of those given up cross"
-    for kind, ways in ("edge", gone), ("face", hatched):
-        for place, way in enumerate(ways):
-            if any(do_meet_somewhere(way, other) for other in live):
-                yield f"{kind} {place} of those given up meets a live edge"
-
-
 # Ways of two edges, and whether they cross.
 TRIED = [
     ("M0 0L10 10", "M0 10L10 0", True), ("M0 0L10 0", "M5 0L5 10", True), ("M0 0L10 0", "M5 0.1L5 10", False),
@@ -169,15 +150,6 @@ def planted_faults(picture):
         last = len(EDGE.findall(picture))
         if f"edges {place} and {last} of those drawn cross" not in crossing_faults(planted):
             yield f"an edge planted over edge {place} of those drawn isn't found"
-
-
-def planted_dashed_faults(picture):
-    """The live edges over which one that is given up can be planted without being found."""
-    for place, way in enumerate(EDGE.findall(picture)):
-        planted = picture.replace("</svg>", f'<path class="edge gone" d="{planted_over(way)}"/></svg>')
-        last = len(GONE.findall(picture))
-        if f"edge {last} of those given up meets a live edge" not in dashed_faults(planted):
-            yield f"a dashed edge planted over edge {place} of those drawn isn't found"
 
 
 def tried_faults():

@@ -2,7 +2,7 @@
 
 use crate::curve::steps_of;
 use crate::svg::room::{Area, Room};
-use dcel_drawn::{Bend, Line, Place};
+use dcel_drawn::{Bend, Line, Place, State};
 use std::alloc::Allocator;
 
 /// How far an arrow is from its edge.
@@ -10,6 +10,9 @@ const GAP: f64 = 4.0;
 
 /// How far an arrow stays away from the vertices, if the edge is long enough.
 const TRIM: f64 = 17.0;
+
+/// How far a number should stay from an edge that is drawn over its own.
+const CLEAR: f64 = 12.0;
 
 /// The arrow of a half edge.
 #[derive(Clone, Copy)]
@@ -58,17 +61,21 @@ impl Arrow {
 
     /// Returns where its number stands: beside its middle, or a little before or after it if there
     /// is room there alone.
-    pub fn place_of<B: Allocator>(self, number: usize, room: &Room<B>) -> Place {
+    pub fn place_of<B: Allocator>(self, number: usize, state: State, room: &Room<B>) -> Place {
         let width = width_of(number);
         let [_, _, near, middle, far, _, _] = steps_of(self.line);
         let points = [middle, near.middle(middle), middle.middle(far), near, far];
+        let mut best = None;
         for point in points {
             let place = self.beside_point(point, width);
             if room.is_free(area_of(place, number)) {
-                return place;
+                if room.distance(place, state) > CLEAR {
+                    return place;
+                }
+                best = best.or(Some(place));
             }
         }
-        self.beside_point(middle, width)
+        best.unwrap_or(self.beside_point(middle, width))
     }
 
     /// Returns a place beside a point, farther away the wider it is across.

@@ -17,7 +17,7 @@ const NUMBERED: usize = 50;
 /// How far from a dot its number stands, to the right and upwards.
 const BESIDE: f64 = 5.0;
 
-/// Writes all vertices, those without a place in rows below the others, and copies of vertices.
+/// Writes all vertices: those without a place in rows below the others.
 pub(crate) fn write_dots<B: Allocator>(
     picture: &Picture<B>,
     frame: &Frame,
@@ -45,43 +45,24 @@ pub(crate) fn write_dots<B: Allocator>(
             Style::Edges => write_dot(*dot, place, picture.dots.len() <= NUMBERED, out)?,
         }
     }
-    write_copies(picture, frame, out)
-}
-
-/// Writes the copies of vertices, which look as what is given up does.
-fn write_copies<B: Allocator>(
-    picture: &Picture<B>,
-    frame: &Frame,
-    out: &mut impl Write,
-) -> io::Result<()> {
-    for copy in &picture.copies {
-        if let Some(place) = copy.place {
-            write_named("copy", frame.shown(place), copy.number, out)?;
-        }
-    }
     Ok(())
 }
 
 fn write_circle(dot: Dot, is_marked: bool, place: Place, out: &mut impl Write) -> io::Result<()> {
-    let class = match (dot.state, is_marked) {
-        (State::Live, false) => "vertex",
-        (State::Live, true) => "vertex changed",
-        (State::GivenUp, false) => "vertex gone",
-        (State::GivenUp, true) => "vertex gone changed",
+    let class = match dot.state {
+        State::Live => "vertex",
+        State::GivenUp => "vertex gone",
     };
-    write_named(class, place, dot.number, out)
-}
-
-/// Writes a circle with a number in it.
-fn write_named(class: &str, place: Place, number: usize, out: &mut impl Write) -> io::Result<()> {
+    let mark = if is_marked { " changed" } else { "" };
     writeln!(
         out,
-        "<circle class=\"{class}\" cx=\"{}\" cy=\"{}\" r=\"{}\"/><text class=\"name\" x=\"{}\" y=\"{}\">{number}</text>",
+        "<circle class=\"{class}{mark}\" cx=\"{}\" cy=\"{}\" r=\"{}\"/><text class=\"name\" x=\"{}\" y=\"{}\">{}</text>",
         Tenths(place.x),
         Tenths(-place.y),
         Tenths(RADIUS),
         Tenths(place.x),
-        Tenths(4.3 - place.y)
+        Tenths(4.3 - place.y),
+        dot.number
     )
 }
 

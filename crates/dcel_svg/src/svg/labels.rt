@@ -122,6 +122,7 @@ fn letters_of(number: usize) -> usize {
 struct Inside<'a> {
     number: usize,
     outline: &'a [Line],
+    state: State,
     frame: &'a Frame,
 }
 
@@ -130,6 +131,7 @@ impl<'a> Inside<'a> {
         Inside {
             number: patch.number,
             outline: patch.outline.as_slice(),
+            state: patch.state,
             frame,
         }
     }
@@ -244,12 +246,14 @@ fn best_between<B: Allocator>(
     (best, most)
 }
 
-/// Returns how far a label is from the outline; less if something stands near. Less than 0 if
-/// something stands there, or the label has no room in its face.
+/// Returns how far a label is from the outline, and from half edges that are given up where the face
+/// is live, or the other way round; less if something stands near. Less than 0 if something stands
+/// there, or the label has no room in its face.
 fn worth<B: Allocator>(inside: Inside, label: Label, room: &Room<B>) -> f64 {
-    let far = inside.depth(label.place);
+    let depth = inside.depth(label.place);
+    let far = depth.min(room.distance(label.place, inside.state));
     let area = label.area();
-    if far <= 0.0 || !inside.has_room_for(area) || !room.is_free(area) {
+    if depth <= 0.0 || !inside.has_room_for(area) || !room.is_free(area) {
         far - 10000.0
     } else if !room.is_free(label.wide_area()) {
         (far - 14.0).max(far / 100.0)

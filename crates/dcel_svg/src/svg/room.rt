@@ -4,9 +4,8 @@ use crate::curve::Way;
 use crate::frame::Frame;
 use crate::svg::arrow::Arrow;
 use crate::svg::dots::RADIUS;
-use dcel_drawn::{Picture, Place};
+use dcel_drawn::{Line, Picture, Place, State};
 use std::alloc::{AllocError, Allocator};
-use std::num::saturating_f64_to_usize;
 
 /// The most vertices that a picture may have so that its numbers make room for one another.
 const MOST: usize = 100;
@@ -55,24 +54,26 @@ impl Area {
     }
 }
 
-/// The side of a cell.
-const CELL: f64 = 48.0;
-
-/// What stands on the page, by the cells of a grid.
+/// What stands on the page.
 #[derive(Drop)]
 pub(crate) struct Room<B: Allocator> {
-    cells: Vec<Vec<Area, B>, B>,
-    corner: Place,
-    columns: usize,
-    rows: usize,
+    areas: Vec<Area, B>,
+    live: Vec<Line, B>,
+    given_up: Vec<Line, B>,
+    is_kept: bool,
 }
 
 impl<B: Allocator + Copy> Room<B> {
-    /// Returns the room that vertices and the heads of arrows leave. In a large picture there is room
-    /// everywhere.
+    /// Returns the room that vertices and the heads of arrows leave.
     pub fn around(picture: &Picture<B>, frame: &Frame) -> Result<Self, AllocError> {
-        let mut room = Self::on_page(picture, frame)?;
-        for dot in picture.dots.iter().chain(&picture.copies) {
+        let alloc = *picture.strokes.allocator();
+        let mut room = Room {
+            areas: Vec::new(alloc),
+            live: Vec::new(alloc),
+            given_up: Vec::new(alloc),
+            is_kept: picture.dots.len() <= MOST,
+        };
+        for dot in &picture.dots {
             if let Some(place) = dot.place {
                 let across = 2.0 * RADIUS;
                 room.take(Area::new(frame.shown(place), across, across))?;
@@ -82,27 +83,8 @@ impl<B: Allocator + Copy> Room<B> {
             if let Some(line) = stroke.line() {
                 let shown = frame.shown_line(line);
                 room.take(Area::new(Arrow::beside(shown).line.to, 5.0, 5.0))?;
+                room.note(stroke.state, shown)?;
             }
-        }
-        Ok(room)
-    }
-
-    /// Returns the room of a page on which nothing stands.
-    fn on_page(picture: &Picture<B>, frame: &Frame) -> Result<Self, AllocError> {
-        let alloc = *picture.strokes.allocator();
-        let mut room = Room {
-            cells: Vec::new(alloc),
-            corner: frame.corner(),
-            columns: 0,
-            rows: 0,
-        };
-        if picture.dots.len() <= MOST {
-            let size = frame.size();
-            room.columns = saturating_f64_to_usize(size.x / CELL).saturating_add(1);
-            room.rows = saturating_f64_to_usize(size.y / CELL).saturating_add(1);
-        }
-        for _ in 0..room.columns.saturating_mul(room.rows) {
-            room.cells.push(Vec::new(alloc))?;
         }
         Ok(room)
     }
@@ -111,54 +93,47 @@ impl<B: Allocator + Copy> Room<B> {
 impl<B: Allocator> Room<B> {
     /// Returns whether nothing stands in a box.
     pub fn is_free(&self, area: Area) -> bool {
-        let [left, right, top, bottom] = self.cells_of(area);
-        for row in top..bottom {
-            for column in left..right {
-                if let Some(cell) = self.cells.get(self.number_of(column, row)) {
-                    if cell.iter().any(|other| other.meets(area)) {
-                        return false;
-                    }
-                }
+        for other in &self.areas {
+            if other.meets(area) {
+                return false;
             }
         }
         true
     }
 
-    /// Notes that something stands in a box.
-    pub fn take(&mut self, area: Area) -> Result<(), AllocError> {
-        let [left, right, top, bottom] = self.cells_of(area);
-        for row in top..bottom {
-            for column in left..right {
-                let number = self.number_of(column, row);
-                if let Some(cell) = self.cells.get_mut(number) {
-                    cell.push(area)?;
-                }
+    /// Returns how far a place is from what is drawn over things of this state: from half edges
+    /// that are given up, or from live ones.
+    pub fn distance(&self, place: Place, state: State) -> f64 {
+        let mut least = f64::INFINITY;
+        for line in self.lines_over(state) {
+            least = least.min(Way::along(*line).distance(place));
+        }
+        least
+    }
+
+    fn lines_over(&self, state: State) -> &[Line] {
+        match state {
+            State::Live => self.given_up.as_slice(),
+            State::GivenUp => self.live.as_slice(),
+        }
+    }
+
+    /// Notes where a half edge lies, unless the picture is a large one.
+    fn note(&mut self, state: State, line: Line) -> Result<(), AllocError> {
+        if self.is_kept {
+            match state {
+                State::Live => self.live.push(line)?,
+                State::GivenUp => self.given_up.push(line)?,
             }
         }
         Ok(())
     }
 
-    fn number_of(&self, column: usize, row: usize) -> usize {
-        row.saturating_mul(self.columns).saturating_add(column)
+    /// Notes that something stands in a box, unless the picture is a large one.
+    pub fn take(&mut self, area: Area) -> Result<(), AllocError> {
+        if self.is_kept {
+            self.areas.push(area)?;
+        }
+        Ok(())
     }
-
-    /// Returns the first column and the one after the last of the cells that a box meets, and the same
-    /// of rows; what is beyond the page is in the cells at its rim.
-    fn cells_of(&self, area: Area) -> [usize; 4] {
-        let corner = Place::new(-area.half.x, area.half.y);
-        let first = area.middle.plus(corner).minus(self.corner);
-        let last = area.middle.minus(corner).minus(self.corner);
-        let [left, right] = cells_between(first.x, last.x, self.columns);
-        let [top, bottom] = cells_between(-first.y, -last.y, self.rows);
-        [left, right, top, bottom]
-    }
-}
-
-/// Returns the first of so many cells in a row that are between two coordinates, or at them, and the
-/// one after the last.
-fn cells_between(first: f64, last: f64, count: usize) -> [usize; 2] {
-    let end = count.saturating_sub(1);
-    let first = saturating_f64_to_usize(first / CELL).min(end);
-    let last = saturating_f64_to_usize(last / CELL).min(end);
-    [first, last.saturating_add(1).min(count)]
 }

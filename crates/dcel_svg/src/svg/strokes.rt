@@ -64,7 +64,7 @@ pub(crate) fn write_strokes<B: Allocator>(
     for stroke in &picture.strokes {
         if let Some(line) = stroke.line() {
             let arrow = Arrow::beside(frame.shown_line(line));
-            let place = arrow.place_of(stroke.number, room);
+            let place = arrow.place_of(stroke.number, stroke.state, room);
             room.take(area_of(place, stroke.number))?;
             let is_marked = marks.has_half_edge(stroke.number);
             write_stroke(stroke, is_marked, arrow, place, out)?;
