@@ -38,7 +38,7 @@ pub extern "C" fn mesh_page_delaunay(from: &mut MeshPageKept, kept: &mut MeshPag
     }
 }
 
-/// Inserts a point, and tells its vertex: a new one, or the one that is there already.
+/// Inserts a point, and reports its vertex: a new one, or the one that is there already.
 ///
 /// Returns 0; 2 if there is no memory, 7 if there are no numbers left, and 3 if a coordinate is out of
 /// range: no vertex is added then; 5 if memory ran out afterwards: the vertex is there, the last one,
@@ -103,7 +103,7 @@ pub extern "C" fn mesh_page_insert_all(
 ///
 /// Returns 0; 6 if there is no such vertex, 2 if there is no memory, and 7 if there are no numbers
 /// left: then all vertices keep their points; 5 if memory ran out afterwards: the vertex is gone, and
-/// `moved` is told, but the triangulation isn't whole; 4 if no triangulation is kept.
+/// `moved` is set, but the triangulation isn't whole; 4 if no triangulation is kept.
 #[unsafe(no_mangle)]
 pub extern "C" fn mesh_page_remove(kept: &mut MeshPageKept, vertex: u32, moved: &mut u64) -> u32
     ensures done { result ≡ 0 → AreSo (RemovesVertex vertex moved.new) (delaunay_in kept.old) (delaunay_in kept.new) }
@@ -175,7 +175,7 @@ pub extern "C" fn mesh_page_list_triangles(
     }
 }
 
-/// Tells a vertex that no other one is nearer to a point than, or 2^32 - 1 if there is no vertex.
+/// Finds a vertex that no other one is nearer to a point than, or 2^32 - 1 if there is no vertex.
 ///
 /// Returns 0; 3 if a coordinate is out of range, 5 if the triangulation isn't whole, and 4 if none is
 /// kept.

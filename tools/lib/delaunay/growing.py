@@ -64,9 +64,9 @@ JOINED = (star, rows, band, arcs, comb)
 # Points alone, made against the order in which they are inserted.
 
 
-def somewhere(count):
+def somewhere(count, reach=NEAR):
     rng = random.Random(count)
-    return [(rng.randint(-NEAR, NEAR), rng.randint(-NEAR, NEAR)) for _ in range(count)]
+    return [(rng.randint(-reach, reach), rng.randint(-reach, reach)) for _ in range(count)]
 
 
 def cluster(count):
@@ -94,7 +94,14 @@ def lines(count):
     return [(at, at) if rng.randint(0, 1) else (at, -at) for at in (rng.randint(-NEAR, NEAR) for _ in range(count))]
 
 
-AGAINST = (cluster, spiral, circle, lines)
+def fans(count):
+    """Two arcs that bend toward each other ever more, and at each end a point that sees both."""
+    half = count // 2
+    points = [(at, side * (at * at + half)) for at in range(-(half // 2), half - half // 2) for side in (-1, 1)]
+    return [*points, (-half, 0), (half, 0)]
+
+
+AGAINST = (cluster, spiral, circle, lines, fans)
 
 
 # What is counted, and what it may be.

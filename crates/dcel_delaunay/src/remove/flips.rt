@@ -30,7 +30,7 @@ const MOST_TRIES: usize = 2 * MOST_EARS;
 /// too, until none of its edges can be flipped so, and lists the edges of the triangles. `on_hull`
 /// says whether it is likely that none can.
 ///
-/// If memory runs out, the flips made so far remain, and their edges are listed.
+/// If memory runs out, it does so before the first flip; edges may be listed then.
 pub(crate) fn thin_out<UE: EdgeConstraint, A: Allocator, L: Allocator>(
     dcel: &mut EdgeMesh<UE, A>,
     due: &mut Due<L>,

@@ -1,10 +1,12 @@
 //! Laws of a vertex put into a Delaunay triangulation, and of the flips around it. These calls
 //! compute nothing; whoever makes one learns what it ensures.
 //!
-//! The triangles at the vertex are its star, and the edges across from it in these are its link. Only
-//! edges of the link are ever to be flipped, so each one needs one test (C. L. Lawson, "Software for
-//! C1 surface interpolation", 1977; L. J. Guibas and J. Stolfi, "Primitives for the manipulation of
-//! general subdivisions and the computation of Voronoi diagrams", 1985).
+//! The triangles at the vertex are its star, and the edges across from it in these are its link. Other
+//! circles are empty (`HasEmptyCirclesBut`) if no other vertex is inside the circle of a triangle away
+//! from the star, nor, of a triangle of the star, inside the circle and on the vertex's side of the
+//! link edge. Then only edges of the link are ever to be flipped, so each one needs one test (C. L.
+//! Lawson, "Software for C1 surface interpolation", 1977; L. J. Guibas and J. Stolfi, "Primitives for
+//! the manipulation of general subdivisions and the computation of Voronoi diagrams", 1985).
 
 ghost use Rattle.std.specs.Prelude.{◌≡◌, ◌<◌, ◌*◌, ◌+◌, ◌∷◌, [], ◌++◌, ℕ, List, pos};
 ghost use Rattle.dcel_fixed.specs.HalfEdges.{rev};
@@ -21,7 +23,8 @@ ghost use Rattle.dcel_plane.specs.covering.Covering.{HasEmptyCircles};
 ghost use Rattle.dcel_plane.specs.Plane.{IsCircled, IsInner, LiesAcross, LiesInFace, ListsCircled, TrianglesTurnLeft};
 ghost use Rattle.dcel_plane.specs.star.Star.{HasEmptyCirclesBut, HasNoneOnLeft, IsLinkEdge, IsSpoke, edges_beside};
 
-/// Where no vertex is inside a circle, none is but any number, also one that no vertex has yet.
+/// Where no vertex is inside a circle, other circles are empty for any vertex, also for a number that
+/// no vertex has yet.
 ///
 /// * `moved`: only where vertices are matters.
 /// * `appended`: a vertex that is appended changes nothing.
@@ -33,8 +36,8 @@ pub fn delaunay_triangulations_have_empty_circles_but_one<V, DE, UE, F>()
         → HasEmptyCirclesBut at (vertex_appended m p).shape v }
 {}
 
-/// `insert_into_triangle` leaves no other vertex in a circle, if the vertex is on the left of each
-/// half edge of the triangle.
+/// `insert_into_triangle` keeps other circles empty, if the vertex is on the left of each half edge of
+/// the triangle.
 pub fn insertions_keep_other_circles_empty<V, DE, UE, F>()
     ensures { (at : ℕ → Point) (m : Mesh V DE UE F) (v f : ℕ) (halves : List DE) (edges : List UE) (faces : List F)
         → IsMesh m → 0 < f → IsTriangle m.shape f → LiesInFace at m.shape f (at v) → TrianglesTurnLeft at m.shape
@@ -78,7 +81,7 @@ pub fn only_edges_of_the_link_are_circled<V, DE, UE, F>()
         → HasEmptyCirclesBut at m.shape v → IsCircled at m.shape u → IsLinkEdge m.shape v u }
 {}
 
-/// A flip of such an edge leaves no other vertex in a circle, and only the other sides of the triangle
+/// A flip of such an edge keeps other circles empty, and only the other sides of the triangle
 /// beyond the edge, which are new in the link, may have to be flipped then.
 ///
 /// The edge was the last of the list, and the two sides replace it. `near` and `far` are for the half

@@ -12,7 +12,7 @@ use dcel_delaunay::{RemovalError, Removed};
 use lent_heap::Heap;
 use spade_dcel::handles::FixedVertexHandle;
 
-/// Inserts a point, and tells its vertex.
+/// Inserts a point, and reports its vertex.
 pub(crate) fn insert(points: &mut Points, given: MeshPagePoint, vertex: &mut u32) -> u32
     ensures done { result ≡ 0 → InsertsPoint given vertex.new points.old points.new }
     ensures fails { result ≢ 0 → result ≢ 3 → FailsToInsertPoint given result points.old points.new }
@@ -78,7 +78,7 @@ fn put_numbers(list: &[FixedVertexHandle], buffer: &mut [u32])
     }
 }
 
-/// Removes a vertex, and tells which one moved.
+/// Removes a vertex, and reports which one moved.
 pub(crate) fn remove(points: &mut Points, vertex: u32, moved: &mut u64) -> u32
     ensures done { result ≡ 0 → RemovesVertex vertex moved.new points.old points.new }
     ensures fails { result ≢ 0 → FailsToRemoveVertex vertex result moved.old moved.new points.old points.new }
@@ -107,7 +107,7 @@ fn tell(removed: &Removed) -> u64
     }
 }
 
-/// Returns what is told if the vertex is gone all the same, and what was there before if it isn't.
+/// Returns what is reported if the vertex is gone all the same, and what was there before if it isn't.
 fn tell_after(error: &RemovalError, before: u64) -> u64
     ensures { result ≡ moved_after error.now before }
 {

@@ -37,7 +37,7 @@ pub(crate) fn list_triangles(
     }
 }
 
-/// Tells a vertex that no other one is nearer to a point than, or 2^32 - 1 if there is none.
+/// Finds a vertex that no other one is nearer to a point than, or 2^32 - 1 if there is none.
 pub(crate) fn nearest(points: &Points, given: MeshPagePoint, vertex: &mut u32) -> u32
     ensures done { result ≡ 0 → IsNearestTo given vertex.new points.now }
     ensures out_of_range { result ≡ 3 → IsFar given }
