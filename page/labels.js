@@ -14,6 +14,10 @@ const WIDE = 0.68, HALF_HIGH = 0.37, BELOW = 0.36, GAP = 1;
 /** How many times as large the circles of vertices may be, since half edges end beside them, and how much of one a number may fill. */
 const LARGEST_CIRCLE = 1.6, FILLED = 0.95;
 
+/** A number may slide along its half edge, by multiples of its size up to this part of the edge's length each way, where it finds more room. */
+const SLIDES = [0, 1, -1, 2, -2, 3, -3, 4, -4], FARTHEST = 0.3;
+const STILL = [0, 0];
+
 /** The side of a cell, by which it is found what is near. */
 const CELL = 60;
 
@@ -43,6 +47,8 @@ function keysOf(left, top, right, bottom) {
 
 /** A number, which keeps its direction from a place: of a half edge from its line, of the others from their own middle. */
 class Label {
+  #slides = new Map(); // by factors, where it isn't still
+
   constructor(shape, size, from) {
     const { label } = shape;
     this.shape = shape;
@@ -54,12 +60,26 @@ class Label {
     this.isLegible = true;
   }
 
-  middleAt(factor) {
-    return this.from.map((start, axis) => start + (this.middle[axis] - start) * factor);
+  /** The ways that it may slide, the least first. */
+  get slides() {
+    const { line } = this.shape;
+    if (line?.length !== 2) return [STILL];
+    const way = line[1].map((end, axis) => end - line[0][axis]), length = Math.hypot(...way);
+    return SLIDES.map(times => times * this.size).filter(far => Math.abs(far) <= FARTHEST * length).map(far => way.map(part => part / length * far));
   }
 
-  boxAt(factor) {
-    const [x, y] = this.middleAt(factor);
+  /** Lets it be so large, where it slid so far. */
+  grow(room, slide) {
+    this.room = room;
+    this.#slides.set(FACTORS[room], slide);
+  }
+
+  middleAt(factor, slide = this.#slides.get(factor) ?? STILL) {
+    return this.from.map((start, axis) => start + (this.middle[axis] - start) * factor + slide[axis]);
+  }
+
+  boxAt(factor, slide) {
+    const [x, y] = this.middleAt(factor, slide);
     const wide = WIDE / 2 * this.size * this.shape.label.textContent.length * factor + GAP, high = HALF_HIGH * this.size * factor + GAP;
     return [x - wide, y - high, x + wide, y + high];
   }
@@ -169,14 +189,18 @@ export class Labels {
     if (!this.#lines) this.#prepare(growing);
     while (this.#grownTo < step) {
       this.#grownTo++;
-      for (const label of growing) if (label.room === this.#grownTo - 1 && this.#fits(label, FACTORS[this.#grownTo])) label.room = this.#grownTo;
+      for (const label of growing) {
+        if (label.room !== this.#grownTo - 1) continue;
+        const slide = label.slides.find(slide => this.#fits(label, FACTORS[this.#grownTo], slide));
+        if (slide) label.grow(this.#grownTo, slide);
+      }
     }
   }
 
   #prepare(growing) {
     [this.#lines, this.#numbers, this.#circles] = [new Cells(), new Cells(), new Cells()];
     for (const shape of this.#shapes.half) for (const piece of shortPiecesOf(shape.line)) this.#lines.add({ shape, piece }, boxOf(piece));
-    for (const label of growing) this.#numbers.add(label, label.boxAt(FACTORS.at(-1)));
+    for (const label of growing) for (const slide of label.slides) this.#numbers.add(label, label.boxAt(FACTORS.at(-1), slide));
     const large = this.#radius * LARGEST_CIRCLE;
     for (const { place: [x, y] } of this.#shapes.vertex) {
       const box = [x - large, y - large, x + large, y + large];
@@ -184,9 +208,9 @@ export class Labels {
     }
   }
 
-  /** Whether there is room for a number that is so many times as large. */
-  #fits(label, factor) {
-    const box = label.boxAt(factor), [left, top, right, bottom] = this.#page;
+  /** Whether there is room for a number that is so many times as large and slid so far. */
+  #fits(label, factor, slide) {
+    const box = label.boxAt(factor, slide), [left, top, right, bottom] = this.#page;
     return box[0] >= left && box[1] >= top && box[2] <= right && box[3] <= bottom
       && !this.#circles.some(box, circle => meet(box, circle))
       && !this.#numbers.some(box, other => other !== label && meet(box, other.box))

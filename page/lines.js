@@ -76,6 +76,7 @@ function show(isDrawn = false) {
   recalled = said.length;
   at('counts').textContent = counts;
   at('undo').disabled = !said.length && !past.length;
+  at('clear').disabled = at('save-lines').disabled = !said.length;
   at('draw').hidden = isDrawn || Number(counts.split(' ')[1]) <= MOST_DRAWN;
   at('picture').hidden = !at('draw').hidden;
   if (at('draw').hidden) drawSoon();

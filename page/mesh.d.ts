@@ -25,6 +25,9 @@ export function triangulate(points: readonly (readonly [number, number])[]): [nu
 export type Coordinates = readonly (number | bigint)[] | Float64Array | Float32Array | Int8Array | Uint8Array | Int16Array | Uint16Array
   | Int32Array | Uint32Array | BigInt64Array | BigUint64Array;
 
+/** Edges between points, by their numbers: two numbers for each in a row, or pairs. */
+export type Edges = readonly number[] | Int32Array | Uint32Array | Uint16Array | readonly (readonly [number, number] | Int32Array | Uint32Array)[];
+
 /**
  * A Delaunay triangulation of points that is kept, as arrays of numbers under delaunator's names. Points have the numbers under which they
  * came, and keep them. Arrays are computed when they are first read, and again after a change.
@@ -65,4 +68,34 @@ export class Delaunay<C extends Coordinates = Coordinates> {
 
   /** Gives back the memory, which happens too once nothing refers to the triangulation. */
   free(): void;
+}
+
+/**
+ * A constrained Delaunay triangulation that is kept: some edges have to stay, the constraints. All others are locally Delaunay, and no triangle
+ * has a point inside its circle that it sees past no constraint. Points and arrays are as in `Delaunay`, and so is what calls throw.
+ *
+ * A point that comes to be on a constraint splits it in two. One that is removed or moved takes the constraints along that end at it, unless
+ * an equal point stays there. `nearest` looks at each point.
+ */
+export class ConstrainedDelaunay<C extends Coordinates = Coordinates> extends Delaunay<C> {
+  /** Makes all edges constraints. Throws a RangeError that names the edge if an end is no point, or it crosses an edge before it. */
+  constructor(coords: C, edges?: Edges);
+
+  /** The ends of all constraints, two numbers of points for each. Equal points are one, under the least number. */
+  get constraints(): Uint32Array;
+
+  /**
+   * Makes the segment between two points one of constraints, from each point on it to the next, and returns true. If it crosses a constraint
+   * it returns false, and nothing changes. Where constraints only meet, also within the segment, they don't cross.
+   */
+  addConstraint(a: number, b: number): boolean;
+
+  /** Returns whether `addConstraint` would be true. */
+  canAddConstraint(a: number, b: number): boolean;
+
+  /** Frees the constraint that joins two points, and returns whether there was one. Of a longer segment it frees no part. */
+  removeConstraint(a: number, b: number): boolean;
+
+  /** Returns whether one constraint joins two points. */
+  isConstraint(a: number, b: number): boolean;
 }

@@ -5,7 +5,7 @@
 const WASM = '/*WASM*/';
 const PAGE = 65536;
 const LEAST_HEAP = 2 ** 24, LARGEST_HEAP = 2 ** 30, LEAST_LENT = 2 ** 20, CELLS = 8;
-const DONE = 0, SHORT = 1, NO_MEMORY = 2, OUT_OF_RANGE = 3, UNFINISHED = 5;
+const DONE = 0, SHORT = 1, NO_MEMORY = 2, OUT_OF_RANGE = 3, UNFINISHED = 5, NO_ROOM = 7, CROSSES = 8;
 
 /** The smallest module with a memory of 64-bit addresses. */
 const LEAST_MODULE = Uint8Array.of(0, 97, 115, 109, 1, 0, 0, 0, 5, 3, 1, 4, 0);
@@ -127,9 +127,9 @@ class Workshop {
     return this.#exports[`mesh_page_${name}`](BigInt(desk), ...given);
   }
 
-  /** Makes a triangulation on a desk. */
-  makeDelaunay(desk) {
-    this.insist(() => this.#exports.mesh_page_delaunay(BigInt(this.#first), BigInt(desk)));
+  /** Makes a triangulation of a kind on a desk. */
+  make(kind, desk) {
+    this.insist(() => this.#exports[`mesh_page_${kind}`](BigInt(this.#first), BigInt(desk)));
   }
 
   /** Calls, and lends more memory as long as there is too little. What a call has left undone is told, and `finish` does it. */
@@ -147,12 +147,31 @@ let workshop;
 const open = () => workshop ??= new Workshop();
 const forgotten = typeof FinalizationRegistry === 'undefined' ? undefined : new FinalizationRegistry(desk => workshop.clear(desk));
 
+/** The kind of a class's triangulations: what the export that makes one is called. */
+const KIND = Symbol('kind');
+
+/** What a class of triangulations uses of the private parts of the one that it extends. */
+let parts;
+
 /**
  * A Delaunay triangulation of points that are numbered as they come, as arrays of numbers. It is kept in the module: points are inserted,
  * moved and removed one by one. The module numbers vertices, of which the last one takes the place of one that is removed; here are tables
  * from points to vertices and back. Of equal points the least number stands for all.
  */
 export class Delaunay {
+  static [KIND] = 'delaunay';
+
+  static {
+    parts = {
+      vertexOf: (made, point, name) => made.#checkPoint(point, name) ?? made.#vertexOf[point],
+      call: (made, name, ...given) => made.#whole().call(name, made.#desk, ...given),
+      cell: made => made.#whole().cell(1),
+      view: made => made.#whole().view(),
+      carryOut: (made, name, ...given) => made.#carryOut(shop => shop.call(name, made.#desk, ...given)),
+      constraints: made => made.#lists.constraints ??= made.#listed('constraints', 2, 3 * made.#pointsOf.length),
+    };
+  }
+
   #desk;
   #xs = [];
   #kind;
@@ -163,14 +182,11 @@ export class Delaunay {
   #pointsOf = [];
   /** Whether nothing is left undone for want of memory. */
   #isWhole = true;
-  #triangles;
-  #halfedges;
-  #hull;
+  /** What was read since the last change. */
+  #lists = {};
 
   constructor(coords) {
-    if (!(Array.isArray(coords) || ArrayBuffer.isView(coords) && !(coords instanceof DataView))) {
-      throw new TypeError('coords is neither an array nor a typed array');
-    }
+    checkList(coords, 'coords');
     if (coords.length % 2) throw new RangeError('coords: the last point has no second coordinate');
     for (let at = 0; at < coords.length; at++) checkCoordinate(coords[at], `coords[${at}]`);
     this.#kind = coords.constructor;
@@ -179,7 +195,7 @@ export class Delaunay {
     const shop = open();
     this.#desk = shop.newDesk();
     try {
-      shop.makeDelaunay(this.#desk);
+      shop.make(new.target[KIND], this.#desk);
       this.#insertAll(shop);
     } catch (error) {
       shop.clear(this.#desk);
@@ -218,24 +234,25 @@ export class Delaunay {
     return shop;
   }
 
-  /** Calls, and notes once what was changed, also where memory ends before all is done that belongs to it. */
-  #carryOut(shop, call, note) {
+  /** Calls, and notes once what was changed, also where memory ends before all is done that belongs to it. Returns the status. */
+  #carryOut(call, note = () => {}) {
+    const shop = this.#whole();
     let isNoted = false;
     const noteOnce = () => {
       if (!isNoted) note();
       isNoted = true;
     };
-    const status = shop.insist(call, () => this.#finish(shop), () => {
-      this.#isWhole = false;
-      noteOnce();
-    });
-    if (status !== DONE) throw new RangeError(TOO_MANY);
+    this.#change();
+    this.#isWhole = false;
+    const status = shop.insist(() => call(shop), () => this.#finish(shop), noteOnce);
     this.#isWhole = true;
-    noteOnce();
+    if (status === NO_ROOM) throw new RangeError(TOO_MANY);
+    if (status === DONE) noteOnce();
+    return status;
   }
 
   #change() {
-    this.#triangles = this.#halfedges = this.#hull = undefined;
+    this.#lists = {};
   }
 
   /** The coordinates of all points, by number, those of removed ones too: an array of the kind that was given. */
@@ -246,26 +263,29 @@ export class Delaunay {
 
   /** The corners of all triangles, three numbers of points for each. */
   get triangles() {
-    if (this.#triangles) return this.#triangles;
+    return this.#lists.triangles ??= this.#listed('triangles', 3, 2 * this.#pointsOf.length);
+  }
+
+  /** A list that the module has, of so many items at most, each some vertices in a row, as numbers of points. */
+  #listed(name, width, most) {
     const shop = this.#whole(), needed = shop.cell(1);
-    let at, count = 2 * this.#pointsOf.length;
+    let at;
     shop.insist(() => {
-      at = shop.room(12 * count);
-      return shop.call('list_triangles', this.#desk, BigInt(at), BigInt(count), BigInt(needed));
+      at = shop.room(4 * width * most);
+      return shop.call(`list_${name}`, this.#desk, BigInt(at), BigInt(most), BigInt(needed));
     });
-    count = Number(shop.view().getBigUint64(needed, true));
-    const least = Uint32Array.from(this.#pointsOf, points => points[0]);
-    return this.#triangles = shop.array(Uint32Array, at, 3 * count).map(vertex => least[vertex]);
+    const count = Number(shop.view().getBigUint64(needed, true)), least = Uint32Array.from(this.#pointsOf, points => points[0]);
+    return shop.array(Uint32Array, at, width * count).map(vertex => least[vertex]);
   }
 
   /** Of each side of a triangle the same side of the triangle across, or -1. */
   get halfedges() {
-    return this.#halfedges ??= sidesAcross(this.triangles, this.#vertexOf.length);
+    return this.#lists.halfedges ??= sidesAcross(this.triangles, this.#vertexOf.length);
   }
 
   /** The points of the convex hull, counterclockwise. */
   get hull() {
-    return this.#hull ??= hullOf(this.triangles, this.halfedges);
+    return this.#lists.hull ??= hullOf(this.triangles, this.halfedges);
   }
 
   /** Inserts a point, and returns its number. */
@@ -310,9 +330,9 @@ export class Delaunay {
     this.#change();
   }
 
-  #checkPoint(point) {
+  #checkPoint(point, name = 'point') {
     this.#shop();
-    if (!Number.isInteger(point) || !(this.#vertexOf[point] >= 0)) throw new RangeError(`point is ${String(point)}: there is none of this number`);
+    if (!Number.isInteger(point) || !(this.#vertexOf[point] >= 0)) throw new RangeError(`${name} is ${String(point)}: there is no point of this number`);
   }
 
   #pointAt(shop, x, y) {
@@ -326,37 +346,89 @@ export class Delaunay {
   #put(point, x, y) {
     const shop = this.#whole(), told = shop.cell(1);
     shop.view().setUint32(told, this.#pointsOf.length, true); // the new vertex, if memory runs out once it is there
-    this.#carryOut(shop, () => shop.call('insert', this.#desk, BigInt(this.#pointAt(shop, x, y)), BigInt(told)), () => {
+    this.#carryOut(() => shop.call('insert', this.#desk, BigInt(this.#pointAt(shop, x, y)), BigInt(told)), () => {
       const vertex = shop.view().getUint32(told, true), points = this.#pointsOf[vertex] ??= [];
       points.push(point);
       points.sort((a, b) => a - b);
       this.#vertexOf[point] = vertex;
       [this.#xs[2 * point], this.#xs[2 * point + 1]] = [x, y];
       this.#coords = undefined;
-      this.#change();
     });
   }
 
   /** Takes a point away, and its vertex if no other point stands there. */
   #take(point) {
-    const shop = this.#whole(), told = shop.cell(1), vertex = this.#vertexOf[point], points = this.#pointsOf[vertex];
-    const note = () => {
-      this.#vertexOf[point] = -1;
-      this.#change();
-    };
+    const vertex = this.#vertexOf[point], points = this.#pointsOf[vertex];
     if (points.length > 1) {
       points.splice(points.indexOf(point), 1);
-      note();
+      this.#vertexOf[point] = -1;
+      this.#change();
       return;
     }
-    this.#carryOut(shop, () => shop.call('remove', this.#desk, vertex, BigInt(told)), () => {
+    this.#carryOut(shop => shop.call('remove', this.#desk, vertex, BigInt(shop.cell(1))), () => {
       const last = this.#pointsOf.pop();
       if (vertex < this.#pointsOf.length) {
         this.#pointsOf[vertex] = last;
         for (const it of last) this.#vertexOf[it] = vertex;
       }
-      note();
+      this.#vertexOf[point] = -1;
     });
+  }
+}
+
+/**
+ * A Delaunay triangulation in which some edges stay, the constraints. Segments between points are made of them, from each point on a segment
+ * to the next.
+ */
+export class ConstrainedDelaunay extends Delaunay {
+  static [KIND] = 'constrained';
+
+  constructor(coords, edges = []) {
+    super(coords);
+    try {
+      const ends = endsOf(edges);
+      for (const [point, name] of ends) parts.vertexOf(this, point, name);
+      for (let at = 0; at < ends.length; at += 2) {
+        const [[a, name], [b]] = ends.slice(at, at + 2);
+        if (!this.addConstraint(a, b)) throw new RangeError(`${name}: the edge from ${a} to ${b} crosses one before it`);
+      }
+    } catch (error) {
+      this.free();
+      throw error;
+    }
+  }
+
+  /** The ends of all constraints, two numbers of points for each. */
+  get constraints() {
+    return parts.constraints(this);
+  }
+
+  /** Makes the segment between two points one of constraints, and returns true; or false, and nothing changes, if it crosses one. */
+  addConstraint(a, b) {
+    return parts.carryOut(this, 'add_constraint', ...this.#vertices(a, b)) !== CROSSES;
+  }
+
+  /** Whether the segment between two points crosses no constraint. */
+  canAddConstraint(a, b) {
+    const vertices = this.#vertices(a, b), told = parts.cell(this);
+    parts.call(this, 'can_add_constraint', ...vertices, BigInt(told));
+    return parts.view(this).getUint8(told) !== 0;
+  }
+
+  /** Makes the constraint between two points none any more, and returns whether there was one. */
+  removeConstraint(a, b) {
+    const was = this.isConstraint(a, b);
+    if (was) parts.carryOut(this, 'remove_constraint', ...this.#vertices(a, b), BigInt(parts.cell(this)));
+    return was;
+  }
+
+  /** Whether a constraint joins two points. */
+  isConstraint(a, b) {
+    return parts.call(this, 'exists_constraint', ...this.#vertices(a, b)) !== 0;
+  }
+
+  #vertices(a, b) {
+    return [parts.vertexOf(this, a, 'a'), parts.vertexOf(this, b, 'b')];
   }
 }
 
@@ -365,6 +437,26 @@ const NO_MEMORY_LEFT = 'the mesh finds no memory', TOO_MANY = 'there are too man
 const up = length => Math.ceil(length / 16) * 16;
 const isCoordinate = number => Number.isInteger(number) && Math.abs(number) <= 2 ** 53;
 const isWide = number => typeof number === 'bigint' && number >= -(2n ** 53n) && number <= 2n ** 53n;
+
+const isList = value => Array.isArray(value) || ArrayBuffer.isView(value) && !(value instanceof DataView);
+
+/** Refuses what is no list, by the name of the argument. */
+function checkList(value, name) {
+  if (!isList(value)) throw new TypeError(`${name} is neither an array nor a typed array`);
+}
+
+/** The ends of edges, one after another, each with its name; they are given as numbers in a row or as pairs. */
+function endsOf(edges) {
+  checkList(edges, 'edges');
+  if (!isList(edges[0])) {
+    if (edges.length % 2) throw new RangeError('edges: the last edge has no second end');
+    return Array.from(edges, (end, at) => [end, `edges[${at}]`]);
+  }
+  return Array.from(edges).flatMap((pair, at) => {
+    if (!isList(pair) || pair.length !== 2) throw new RangeError(`edges[${at}] is ${String(pair)}, no two points`);
+    return Array.from(pair, (end, place) => [end, `edges[${at}][${place}]`]);
+  });
+}
 
 /** Refuses what is no coordinate, by the name of the argument. */
 function checkCoordinate(value, name) {

@@ -96,7 +96,9 @@ function draw() {
   const radius = points.length > 300 ? 2.5 : Math.max(6, 3.5 / scale());
   at('points').innerHTML = points.map(([x, y], number) =>
     `<circle cx="${x}" cy="${y}" r="${radius}"${number === chosen ? ' class="taken"' : ''}/>`).join('');
-  at('size').textContent = `${points.length} points, ${triangles.length} triangles, ${time.toFixed(1)} ms`;
+  at('size').textContent = `${points.length} points, ${triangles.length} triangles in ${time.toFixed(1)} ms`;
+  at('remove').disabled = chosen === null;
+  at('none').disabled = !points.length;
 }
 
 /** The circle through the corners of a triangle. */

@@ -55,8 +55,18 @@ function nearest(shapes, limit, farFrom) {
   return found;
 }
 
-/** What lies at a place, with its kind: a vertex, a half edge so near to it, or else the face, if it has no hole there. */
+/** Whether a place is on a number that is shown. A digit is some 0.72 of the font size high, on the line of the text. */
+function isOnNumber({ label }, [x, y]) {
+  const { x: left, width } = label.getBBox(), bottom = Number(label.getAttribute('y')), high = 0.72 * parseFloat(getComputedStyle(label).fontSize);
+  return label.style.visibility !== 'hidden' && x >= left && x <= left + width && y <= bottom && y >= bottom - high;
+}
+
+/** What is at a place, with its kind: what has its number there, a vertex or a half edge so near to it, or else the face, if it has no hole there. */
 export function shapeAt(shapes, place, near) {
+  for (const [kind, all] of Object.entries(shapes)) {
+    const named = all.find(shape => isOnNumber(shape, place));
+    if (named) return [kind, named.number];
+  }
   const vertex = nearest(shapes.vertex, Math.max(near, 12), ({ place: center }) => far(center, place));
   if (vertex) return ['vertex', vertex.number];
   const half = nearest(shapes.half, near, ({ line }) => Math.min(...piecesOf(line).map(piece => far(nearestOn(piece, place), place))));

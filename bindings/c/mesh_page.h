@@ -22,6 +22,7 @@ enum {
     MESH_PAGE_UNFINISHED = 5,     /* the triangulation isn't whole, for want of memory: lend some, and finish */
     MESH_PAGE_NO_SUCH_VERTEX = 6, /* no vertex has the number */
     MESH_PAGE_NO_ROOM = 7,        /* there are no numbers for so many elements */
+    MESH_PAGE_CROSSES = 8,        /* the segment would cross a constraint */
 };
 
 /* Memory lent for good: a multiple of 16 bytes from an address that is one too, which nothing else
@@ -40,6 +41,11 @@ typedef struct {
 typedef struct {
     uint32_t first, second, third;
 } mesh_page_triangle;
+
+/* The numbers of the two vertices of an edge. */
+typedef struct {
+    uint32_t from, to;
+} mesh_page_ends;
 
 /* A desk, on which a thing is kept across calls, or none. All zero is none. Hand it to each call as the
    last one left it, and use one of two copies alone. */
@@ -74,8 +80,12 @@ void mesh_page_free(mesh_page_kept *kept);
 /* Makes a Delaunay triangulation of no points on a desk, in the heap of another one. */
 uint32_t mesh_page_delaunay(mesh_page_kept *from, mesh_page_kept *kept);
 
-/* Inserts a point, and tells its vertex: a new one, the last, or the one that is there already. With
-   UNFINISHED the vertex is there, but isn't told. */
+/* Makes a constrained Delaunay triangulation of no points there. The calls that follow, up to `nearest`,
+   take either. */
+uint32_t mesh_page_constrained(mesh_page_kept *from, mesh_page_kept *kept);
+
+/* Inserts a point, and tells its vertex: a new one, the last, or the one that is there already. A
+   constraint that it is on becomes two. With UNFINISHED the vertex is there, but isn't told. */
 uint32_t mesh_page_insert(mesh_page_kept *kept, mesh_page_point point, uint32_t *vertex);
 
 /* Inserts points, and puts the vertex of each into the buffer. Where memory lacks, those that were
@@ -83,7 +93,7 @@ uint32_t mesh_page_insert(mesh_page_kept *kept, mesh_page_point point, uint32_t 
 uint32_t mesh_page_insert_all(mesh_page_kept *kept, const mesh_page_point *points, size_t points_len,
                               uint32_t *vertices, size_t vertices_len);
 
-/* Removes a vertex. The last vertex gets its number, and `moved` is the number that this had before, or
+/* Removes a vertex with the constraints that end at it. The last vertex gets its number, and `moved` is the number that this had before, or
    2^64 - 1. With UNFINISHED the vertex is gone, too. */
 uint32_t mesh_page_remove(mesh_page_kept *kept, uint32_t vertex, uint64_t *moved);
 
@@ -96,6 +106,25 @@ uint32_t mesh_page_list_triangles(mesh_page_kept *kept, mesh_page_triangle *tria
 
 /* Tells a vertex that no other one is nearer to a point than, or 2^32 - 1 if there is no vertex. */
 uint32_t mesh_page_nearest(mesh_page_kept *kept, mesh_page_point point, uint32_t *vertex);
+
+/* The rest asks for a constrained triangulation. Any numbers of vertices may be given. */
+
+/* Tells whether the segment between two vertices crosses no constraint. */
+uint32_t mesh_page_can_add_constraint(mesh_page_kept *kept, uint32_t from, uint32_t to, bool *answer);
+
+/* Makes the segment one of constraints, from each vertex on it to the next. With CROSSES it isn't, and
+   with NO_MEMORY parts of it may be: the same call adds the rest. */
+uint32_t mesh_page_add_constraint(mesh_page_kept *kept, uint32_t from, uint32_t to);
+
+/* Makes a constraint between two vertices none any more, and tells whether there was one. */
+uint32_t mesh_page_remove_constraint(mesh_page_kept *kept, uint32_t from, uint32_t to, bool *was);
+
+/* Whether a constraint joins two vertices. */
+bool mesh_page_exists_constraint(mesh_page_kept *kept, uint32_t from, uint32_t to);
+
+/* The ends of all constraints. */
+uint32_t mesh_page_list_constraints(mesh_page_kept *kept, mesh_page_ends *constraints, size_t constraints_len,
+                                    uint64_t *needed);
 
 #ifdef __cplusplus
 }

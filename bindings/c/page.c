@@ -251,6 +251,75 @@ static void check_kept(void) {
     printf("kept: with %zu bytes\n", size - 16);
 }
 
+/* A segment that is added, and is one of constraints then: here two, since a point is on it. */
+static void check_segments(mesh_page_kept *kept, const uint32_t *vertices, size_t size) {
+    uint32_t from = vertices[0], to = vertices[3], middle = vertices[4], left = vertices[1], right = vertices[2];
+    mesh_page_ends found[2 * COUNT(POINTS)];
+    uint64_t needed;
+    bool told;
+    must(mesh_page_can_add_constraint(kept, from, to, &told) == MESH_PAGE_DONE && told, "can_add_constraint", "it can't", size);
+    must(mesh_page_add_constraint(kept, from, to) == MESH_PAGE_DONE, "add_constraint", "it isn't added", size);
+    must(mesh_page_exists_constraint(kept, middle, from) && mesh_page_exists_constraint(kept, middle, to), "exists_constraint", "a part lacks", size);
+    must(!mesh_page_exists_constraint(kept, from, to) && !mesh_page_exists_constraint(kept, from, UINT32_MAX), "exists_constraint", "there is one more", size);
+    must(mesh_page_can_add_constraint(kept, left, right, &told) == MESH_PAGE_DONE && !told, "can_add_constraint", "it may cross", size);
+    must(mesh_page_can_add_constraint(kept, left, UINT32_MAX, &told) == MESH_PAGE_DONE && !told, "can_add_constraint", "there is no such vertex", size);
+    must(mesh_page_add_constraint(kept, left, right) == MESH_PAGE_CROSSES, "add_constraint", "it crosses", size);
+    must(mesh_page_add_constraint(kept, left, UINT32_MAX) == MESH_PAGE_NO_SUCH_VERTEX, "add_constraint", "there is no such vertex", size);
+    must(mesh_page_list_constraints(kept, found, 1, &needed) == MESH_PAGE_SHORT && needed == 2, "list_constraints", "the buffer isn't short", size);
+    must(mesh_page_list_constraints(kept, found, 2, &needed) == MESH_PAGE_DONE && needed == 2, "list_constraints", "they aren't two", size);
+    for (size_t i = 0; i < 2; i++)
+        must(found[i].from == middle || found[i].to == middle, "list_constraints", "it is another one", i);
+    must(mesh_page_remove_constraint(kept, from, to, &told) == MESH_PAGE_DONE && !told, "remove_constraint", "it was none", size);
+    must(mesh_page_remove_constraint(kept, from, middle, &told) == MESH_PAGE_DONE && told, "remove_constraint", "it was one", size);
+    must(!mesh_page_exists_constraint(kept, from, middle), "remove_constraint", "it is one still", size);
+    must(mesh_page_remove_constraint(kept, to, middle, &told) == MESH_PAGE_DONE && told, "remove_constraint", "it was one", size);
+    must(mesh_page_list_constraints(kept, found, 0, &needed) == MESH_PAGE_DONE && needed == 0, "list_constraints", "one is left", size);
+}
+
+/* What asks for constraints finds none in a Delaunay triangulation, nor on an empty desk. */
+static void check_unconstrained(mesh_page_kept *kept, size_t size) {
+    mesh_page_ends found[1];
+    uint64_t needed = 9;
+    bool told;
+    must(mesh_page_can_add_constraint(kept, 0, 1, &told) == MESH_PAGE_NOT_KEPT, "can_add_constraint", "it can", size);
+    must(mesh_page_add_constraint(kept, 0, 1) == MESH_PAGE_NOT_KEPT, "add_constraint", "it is added", size);
+    must(mesh_page_remove_constraint(kept, 0, 1, &told) == MESH_PAGE_NOT_KEPT, "remove_constraint", "there is one", size);
+    must(!mesh_page_exists_constraint(kept, 0, 1), "exists_constraint", "there is one", size);
+    must(mesh_page_list_constraints(kept, found, 1, &needed) == MESH_PAGE_NOT_KEPT && needed == 0, "list_constraints", "there are some", size);
+}
+
+/* A constrained triangulation, with memory of every size, as `check_kept` has a Delaunay one. */
+static void check_constrained(void) {
+    size_t size = 0;
+    for (bool is_enough = false; !is_enough; size += 16) {
+        must(size < ENOUGH, "constrained", "no memory suffices", size);
+        mesh_page_kept root = {NULL, false}, kept = {NULL, false};
+        mesh_page_memory memory = {last(lent, size), size}, further = {last(more, ENOUGH), ENOUGH};
+        uint32_t vertices[COUNT(POINTS)];
+        if (mesh_page_lend(&root, memory) != MESH_PAGE_DONE)
+            continue;
+        uint32_t status = mesh_page_constrained(&root, &kept);
+        if (status == MESH_PAGE_DONE)
+            status = mesh_page_insert_all(&kept, POINTS, COUNT(POINTS), vertices, COUNT(vertices));
+        if (status == MESH_PAGE_DONE)
+            status = mesh_page_add_constraint(&kept, vertices[0], vertices[3]);
+        is_enough = status == MESH_PAGE_DONE;
+        must(is_enough || status == MESH_PAGE_NO_MEMORY || status == MESH_PAGE_UNFINISHED, "constrained", "the status is wrong", size);
+        must(mesh_page_lend(&root, further) == MESH_PAGE_DONE, "lend", "it isn't taken", size);
+        must(kept.is_open || mesh_page_constrained(&root, &kept) == MESH_PAGE_DONE, "constrained", "it isn't made", size);
+        must(mesh_page_finish(&kept) == MESH_PAGE_DONE, "finish", "it isn't whole", size);
+        must(mesh_page_insert_all(&kept, POINTS, COUNT(POINTS), vertices, COUNT(vertices)) == MESH_PAGE_DONE, "insert_all", "it isn't done", size);
+        check_segments(&kept, vertices, size);
+        check_triangles(&kept, vertices, size);
+        check_removed(&kept, size);
+        check_unconstrained(&kept, size);
+        must(mesh_page_delaunay(&root, &kept) == MESH_PAGE_DONE, "delaunay", "its desk isn't used again", size);
+        check_unconstrained(&kept, size);
+        must(mesh_page_constrained(&root, &kept) == MESH_PAGE_DONE, "constrained", "it isn't made in place of another", size);
+    }
+    printf("constrained: with %zu bytes\n", size - 16);
+}
+
 int main(void) {
     lent = guard(ENOUGH);
     more = guard(ENOUGH);
@@ -260,6 +329,7 @@ int main(void) {
     check_range();
     check_answers();
     check_kept();
+    check_constrained();
     printf("%d checks\n", calls);
     return EXIT_SUCCESS;
 }

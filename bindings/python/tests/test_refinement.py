@@ -6,6 +6,7 @@ import importlib.util
 import itertools
 import math
 import random
+import re
 import subprocess
 import sys
 import tempfile
@@ -24,6 +25,7 @@ sys.path.append(str(Path(__file__).resolve().parents[3] / "tools/lib"))
 from delaunay import laid, plane  # noqa: E402
 
 EXAMPLES = Path(__file__).resolve().parents[1] / "examples"
+PICTURE = Path(__file__).resolve().parents[3] / "docs/pictures/poisson.svg"
 SQUARE = [(0, 0), (64, 0), (64, 64), (0, 64)]
 BORDER = [(0, 1), (1, 2), (2, 3), (3, 0)]
 HAS_NUMPY = importlib.util.find_spec("numpy") is not None
@@ -275,6 +277,12 @@ class Ended(unittest.TestCase):
         self.assertEqual(_declared.Refinement._fields_[-1][0], "inside")
 
 
+def triangles_drawn(path: str | Path) -> list[tuple[list[float], list[int]]]:
+    """The corners and the color of each triangle of a picture."""
+    rows = [it.attrib for it in ElementTree.parse(path).getroot()]
+    return [([float(it) for it in re.findall(r"-?[\d.]+", row["d"])], list(bytes.fromhex(row["fill"][1:]))) for row in rows]
+
+
 @unittest.skipIf(not HAS_NUMPY, "the example wants NumPy")
 class Elements(unittest.TestCase):
     def test_poisson(self) -> None:
@@ -283,6 +291,7 @@ class Elements(unittest.TestCase):
             words = [EXAMPLES / "poisson.py", "--picture", f"{folder}/drawn.svg", "0.4", "0.1", "0.025"]
             ran = subprocess.run([sys.executable, *words], capture_output=True, text=True, check=True)
             picture = ElementTree.parse(f"{folder}/drawn.svg").getroot()
+            drawn = triangles_drawn(f"{folder}/drawn.svg")
         rows = [list(map(float, line.split())) for line in ran.stdout.splitlines()[1:]]
         self.assertEqual([area for area, _, _, _ in rows], [0.4, 0.1, 0.025])
         self.assertTrue(all(later[-1] < earlier[-1] / 3 for earlier, later in itertools.pairwise(rows)), rows)
@@ -291,6 +300,12 @@ class Elements(unittest.TestCase):
         paths = [it.attrib for it in picture]
         self.assertEqual((len(paths), len({it["d"] for it in paths})), (rows[0][2], rows[0][2]))
         self.assertTrue({"#2b6cb0", "#c05621"} < {it["fill"] for it in paths})
+        stored = triangles_drawn(PICTURE)
+        self.assertEqual(len(drawn), len(stored))
+        for (corners, color), (others, other) in zip(drawn, stored, strict=True):
+            # NumPy's last digits differ between processors: what is written may be off by one.
+            self.assertLess(max(abs(a - b) for a, b in zip(corners, others, strict=True)), 0.11)
+            self.assertLessEqual(max(abs(a - b) for a, b in zip(color, other, strict=True)), 1)
 
 
 if __name__ == "__main__":

@@ -102,21 +102,23 @@ module _ {DE UE F : Type 0} where
     given_up out has plane lists left =
         let given = strip_given_up m mesh (strip_of m.shape h) strip in
         record {
-          mesh = after;
-          vertices = refl;
-          points = refl;
-          edges = ascending us;
-          faces = ascending fs;
-          removal = given.removal;
+          emptied = record {
+            mesh = after;
+            vertices = refl;
+            points = refl;
+            edges = ascending us;
+            faces = ascending fs;
+            removal = given.removal;
+            euler =
+                counts m.shape.vertices m.shape.edges (face_count m.shape) n.shape.vertices n.shape.edges (face_count n.shape) (length (ascending us)) (length (ascending fs))
+                euler refl refl given.faces given.one_more;
+            triangles = strip_off m triangles closed (strip_of m.shape h);
+            plane = plane;
+            listed = lists;
+            left = left;
+            staying = spokes_staying stays m n v spokes;
+          };
           named = subst (λ r. Named r out) (sym given.removal) (ap ascending has.edges, ap ascending has.faces);
-          euler =
-              counts m.shape.vertices m.shape.edges (face_count m.shape) n.shape.vertices n.shape.edges (face_count n.shape) (length (ascending us)) (length (ascending fs))
-              euler refl refl given.faces given.one_more;
-          triangles = strip_off m triangles closed (strip_of m.shape h);
-          plane = plane;
-          listed = lists;
-          left = left;
-          staying = spokes_staying stays m n v spokes;
         }
 
   -- the same of a mesh that had these vertices before an edge was flipped
@@ -124,22 +126,24 @@ module _ {DE UE F : Type 0} where
       → m.vertex_data ≡ old.vertex_data → KeepsStaying stays old m → (ListsLoose stays old first → ListsLoose stays m due) → IsGivenUp stays m n v due items out
       → IsGivenUp stays old n v first items out
   of_old stays old m n v first due items out vertices points keeps lists given = record {
-    mesh = given.mesh;
-    vertices = given.vertices ∙ vertices;
-    points = given.points ∙ points;
-    edges = given.edges;
-    faces = given.faces;
-    removal = given.removal;
+    emptied = record {
+      mesh = given.emptied.mesh;
+      vertices = given.emptied.vertices ∙ vertices;
+      points = given.emptied.points ∙ points;
+      edges = given.emptied.edges;
+      faces = given.emptied.faces;
+      removal = given.emptied.removal;
+      euler = (let e = given.emptied.euler in omega (arith, e, vertices));
+      triangles = given.emptied.triangles;
+      plane = given.emptied.plane;
+      listed = λ was. given.emptied.listed (lists was);
+      left = given.emptied.left;
+      staying = λ a b not_a not_b. (
+        λ was. (given.emptied.staying a b not_a not_b).0 ((keeps a b).0 was),
+        λ is. (keeps a b).1 ((given.emptied.staying a b not_a not_b).1 is),
+      );
+    };
     named = given.named;
-    euler = (let e = given.euler in omega (arith, e, vertices));
-    triangles = given.triangles;
-    plane = given.plane;
-    listed = λ was. given.listed (lists was);
-    left = given.left;
-    staying = λ a b not_a not_b. (
-      λ was. (given.staying a b not_a not_b).0 ((keeps a b).0 was),
-      λ is. (keeps a b).1 ((given.staying a b not_a not_b).1 is),
-    );
   }
 
   -- where no face is given up, the first inner one has a half edge

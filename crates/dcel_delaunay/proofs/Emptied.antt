@@ -29,7 +29,7 @@ use Rattle.dcel_plane.proofs.removal.Holes.{IsHole, half_of_triangle, hole_is, s
 use Rattle.dcel_planar.specs.Growing.{IsTriangleMesh}
 use Rattle.dcel_planar.specs.Legalization.{HasToStay, ListsLoose}
 use Rattle.dcel_planar.proofs.Staying.{listed_stays, staying, to_circled}
-use Rattle.dcel_delaunay.specs.Removing.{IsFilled, IsGivenUp, IsThinnedOut}
+use Rattle.dcel_delaunay.specs.Removing.{IsEmptied, IsFilled, IsGivenUp, IsThinnedOut}
 use Rattle.dcel_delaunay.proofs.Staying.{LosesSpokes, loose_after, same_before, spokes_staying, stay_below}
 
 -- the counts of Euler's formula, with k edges and k faces round the vertex
@@ -100,7 +100,7 @@ module _ {DE UE F : Type 0} where
     stays_too u stay = ap (λ (o : Option UE). option_map stays o) (same_data u (elim (cases_lt u m.shape.edges) [ inl below ↦ below | inr past ↦ absurd (stay_below stays m mesh u past stay) ])) ∙ stay
 
     -- the new faces are listed
-    lists_after : (list : List ℕ) → ((f h : ℕ) → face_count m.shape ≤ f → f < face_count n.shape → IsLive n.shape h → face_of n.shape h ≡ f → 0 < count_of (h / 2) list)
+    pub lists_after : (list : List ℕ) → ((f h : ℕ) → face_count m.shape ≤ f → f < face_count n.shape → IsLive n.shape h → face_of n.shape h ≡ f → 0 < count_of (h / 2) list)
         → ListsLoose stays m due → ListsLoose stays n (due ++ list)
     lists_after list each lists u is =
         let stay = staying stays m in
@@ -116,13 +116,6 @@ module _ {DE UE F : Type 0} where
           | inr none ↦ omega (arith, found, all, both, wanted, none)
         ]
 
-    three_listed : length border ≡ 3 → ListsLoose stays m due → ListsLoose stays n (due ++ edges_inserted n (face_count m.shape))
-    three_listed three =
-        lists_after (edges_inserted n (face_count m.shape)) (λ f h past below live on.
-        let counted = hole.faces in
-        let is : f ≡ face_count m.shape = omega (arith, past, below, counted, three) in
-        side_listed n after (face_count m.shape) first_new h live (on ∙ is))
-
     four_listed : length border ≡ 4
         → ListsLoose stays m due → ListsLoose stays n (due ++ (edges_inserted n (face_count m.shape) ++ edges_inserted n (face_count m.shape + 1)))
     four_listed four =
@@ -137,9 +130,8 @@ module _ {DE UE F : Type 0} where
               two_listed (h / 2) near far (side_listed n after (face_count m.shape + 1) (second_new four) h live (on ∙ is))
         ])
 
-    given_up : {A : Type 0} (list : List ℕ) (out : IsolateVertexResult A) → HasFilled m.shape border (edges_at m v) (faces_at m v) out
-        → (ListsLoose stays m due → ListsLoose stays n list) → LosesSpokes stays m n v → IsGivenUp stays m n v due list out
-    given_up list out has lists spokes =
+    pub emptied : (list : List ℕ) → (ListsLoose stays m due → ListsLoose stays n list) → LosesSpokes stays m n v → IsEmptied stays m n v due list
+    emptied list lists spokes =
         let some = thin.below in
         let (h, live, on) = half_of_triangle n after (face_count m.shape) first_new in
         let outer = mesh.sized.outer in
@@ -150,7 +142,6 @@ module _ {DE UE F : Type 0} where
           edges = ascending (edges_at m v);
           faces = ascending (faces_at m v);
           removal = hole.removal;
-          named = subst (λ r. Named r out) (sym hole.removal) (ap ascending has.edges, ap ascending has.faces);
           euler =
               counts m.shape.vertices m.shape.edges (face_count m.shape) n.shape.vertices n.shape.edges (face_count n.shape) (length border)
               (length (ascending (edges_at m v))) (length (ascending (faces_at m v))) (sound.joined.euler (omega (arith, some))) hole.vertices hole.edges hole.faces
@@ -167,6 +158,14 @@ module _ {DE UE F : Type 0} where
           staying = spokes_staying stays m n v spokes;
         }
 
+    -- and the result of a call names what is given up
+    given_up : {A : Type 0} (list : List ℕ) (out : IsolateVertexResult A) → HasFilled m.shape border (edges_at m v) (faces_at m v) out
+        → (ListsLoose stays m due → ListsLoose stays n list) → LosesSpokes stays m n v → IsGivenUp stays m n v due list out
+    given_up list out has lists spokes = record {
+      emptied = emptied list lists spokes;
+      named = subst (λ r. Named r out) (sym hole.removal) (ap ascending has.edges, ap ascending has.faces);
+    }
+
     abbrev given : Removal
     given = opened (edges_at m v) (faces_at m v) v
 
@@ -174,7 +173,7 @@ module _ {DE UE F : Type 0} where
     long = (let k = many in let e = length-reverse border in omega (arith, k, e))
 
     -- only edges of v are given up
-    given_spokes : (is_edge : UE → Type 0) → DefaultIsLoose is_edge stays → All is_edge edges → LosesSpokes stays m (hole_filled m v border halves edges faces) v
+    pub given_spokes : (is_edge : UE → Type 0) → DefaultIsLoose is_edge stays → All is_edge edges → LosesSpokes stays m (hole_filled m v border halves edges faces) v
     given_spokes is_edge default all =
         by_three (λ w. LosesSpokes stays m (loop_filled m (opened (edges_at m v) (faces_at m v) v) w halves edges faces) v) (reverse border) long (λ p q r rest is. record {
           closed = sound.closed;
@@ -208,20 +207,9 @@ module _ {DE UE F : Type 0} where
         (subst (λ (i : ℕ). IsTriangle (hole_filled m v border fills.directed_data fills.undirected_data fills.face_data).shape i) (sym is)
         (second_new stays m mesh due sound v thin border filled fills.directed_data fills.undirected_data fills.face_data done four))
 
-    three : length border ≢ 4 → length border ≡ 3
-    three not = elim filled.triangles [ inl is ↦ is | inr four ↦ absurd (not four.0) ]
-
     spokes : DefaultIsLoose is_edge stays → LosesSpokes stays m (hole_filled m v border fills.directed_data fills.undirected_data fills.face_data) v
     spokes default =
         given_spokes stays m mesh due sound v thin border filled fills.directed_data fills.undirected_data fills.face_data done is_edge default fills.undirected_default
-
-    pub filled_three : {A : Type 0} → DefaultIsLoose is_edge stays → (list : List ℕ) (out : IsolateVertexResult A) (f : ℕ) → HasFilled m.shape border (edges_at m v) (faces_at m v) out → length border ≢ 4
-        → f ≡ face_count m.shape → list ≡ due ++ edges_inserted new f → IsGivenUp stays m new v due list out
-    filled_three default list out f has not is listed =
-        subst (λ (l : List ℕ). IsGivenUp stays m new v due l out) (sym (listed ∙ ap (λ (i : ℕ). due ++ edges_inserted new i) is))
-        (subst (λ (k : Mesh Point DE UE F). IsGivenUp stays m k v due (due ++ edges_inserted k (face_count m.shape)) out) (sym fills.is)
-        (given_up stays m mesh due sound v thin border filled fills.directed_data fills.undirected_data fills.face_data done _ out has
-        (three_listed stays m mesh due sound v thin border filled fills.directed_data fills.undirected_data fills.face_data done (three not)) (spokes default)))
 
     pub filled_four : {A : Type 0} → DefaultIsLoose is_edge stays → (list : List ℕ) (out : IsolateVertexResult A) (f g : ℕ) → HasFilled m.shape border (edges_at m v) (faces_at m v) out → length border ≡ 4
         → f ≡ face_count m.shape → g ≡ face_count m.shape + 1 → list ≡ (due ++ edges_inserted new f) ++ edges_inserted new g → IsGivenUp stays m new v due list out

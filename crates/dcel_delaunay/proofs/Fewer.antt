@@ -2,7 +2,6 @@
 use Rattle.std.proofs.Common.{◌≡◌, ◌≢◌, inl, inr, ℕ, suc, ◌+◌, ◌-◌, ◌<◌, ◌==◌, true, false, Bool, List, [], ◌∷◌, length, slice_index_or, sym, ap, ◌∙◌, subst, arith}
 use Rattle.std.specs.List.{list_any}
 use Rattle.std.proofs.lemmas.Bool.{cases_eq, cases_lt, false_from_ne_true, false≢true}
-use Rattle.spade_dcel.specs.declared.operations.results.IsolateVertexResult.{IsolateVertexResult}
 use Rattle.dcel_maps.specs.Removals.{Cleaned, Closed, IsListed, Isolated, Removal, gives_up_edge}
 use Rattle.dcel_maps.specs.Shapes.{Mesh, Shape, edge_is_live}
 use Rattle.dcel_maps.specs.Words.{count_of}
@@ -12,7 +11,7 @@ use Rattle.dcel_maps.proofs.words.Counts.{first_or_later}
 use Rattle.dcel_maps.proofs.words.Mapped.{count-at}
 use Rattle.dcel_predicates.specs.declared.point.Point.{Point}
 use Rattle.dcel_delaunay.specs.Needless.{IsNeedless}
-use Rattle.dcel_delaunay.specs.Removing.{IsGivenUp}
+use Rattle.dcel_delaunay.specs.Removing.{IsEmptied}
 
 -- an item has a place
 place_of : (u d : ℕ) (list : List ℕ) → 0 < count_of u list → (k : ℕ) × (k < length list) × (slice_index_or list k d ≡ u)
@@ -34,24 +33,24 @@ pub named_dead : (s : Shape) (edges faces : List ℕ) → IsListed s.removal edg
 named_dead s edges faces named u found =
     false_from_ne_true (edge_is_live s u) (λ live. false≢true (sym (is_live-parts (gives_up_edge s.removal) s.edges u live).1 ∙ given_up_of s.removal edges faces named u found))
 
--- the list has each live item that an earlier one has
-abbrev pub KeepsNeeded : Shape → List ℕ → List ℕ → Type 0
-KeepsNeeded s list rest = (u : ℕ) → edge_is_live s u ≡ true → 0 < count_of u list → 0 < count_of u rest
+-- the list has each needed item that an earlier one has
+abbrev pub KeepsNeeded : (ℕ → Bool) → List ℕ → List ℕ → Type 0
+KeepsNeeded needed list rest = (u : ℕ) → needed u ≡ true → 0 < count_of u list → 0 < count_of u rest
 
 -- one item goes, and the last one gets its place
-module _ (s : Shape) (list rest : List ℕ) (at x : ℕ) (within : at < length list) (read : x ≡ slice_index_or list at x) (short : length rest + 1 ≡ length list)
-    (needless : IsNeedless s list at x) (len : ℕ) (many : len ≡ length list) (last : (d : ℕ) → at + 1 < len → slice_index_or rest at d ≡ slice_index_or list (len - 1) d)
+module _ (needed : ℕ → Bool) (list rest : List ℕ) (at x : ℕ) (within : at < length list) (read : x ≡ slice_index_or list at x) (short : length rest + 1 ≡ length list)
+    (needless : IsNeedless needed list at x) (len : ℕ) (many : len ≡ length list) (last : (d : ℕ) → at + 1 < len → slice_index_or rest at d ≡ slice_index_or list (len - 1) d)
     (others : (k d : ℕ) → k ≢ at → k + 1 < len → slice_index_or rest k d ≡ slice_index_or list k d) where
   left_at : (u k : ℕ) → k < length rest → slice_index_or rest k x ≡ u → 0 < count_of u rest
   left_at u k below is = subst (λ (y : ℕ). 0 < count_of y rest) is (count-at rest k x below)
 
-  gone : (u : ℕ) → edge_is_live s u ≡ true → x ≡ u → 0 < count_of u rest
+  gone : (u : ℕ) → needed u ≡ true → x ≡ u → 0 < count_of u rest
   gone u live is = elim needless [
     | inl repeated ↦
         let early = repeated.earlier in
         left_at u repeated.before (omega (arith, early, within, short))
         (others repeated.before x (λ same. omega (arith, same, early)) (omega (arith, early, within, many)) ∙ sym repeated.same ∙ is)
-    | inr given_up ↦ absurd (false≢true (sym given_up ∙ ap (edge_is_live s) is ∙ live))
+    | inr given_up ↦ absurd (false≢true (sym given_up ∙ ap needed is ∙ live))
   ]
 
   other : (u k : ℕ) → k < length list → k ≢ at → slice_index_or list k x ≡ u → 0 < count_of u rest
@@ -63,7 +62,7 @@ module _ (s : Shape) (list rest : List ℕ) (at x : ℕ) (within : at < length l
         (last x (omega (arith, within, end, below, not, many)) ∙ ap (λ (i : ℕ). slice_index_or list i x) (sym is_last) ∙ is)
   ]
 
-  pub needed_stay : KeepsNeeded s list rest
+  pub needed_stay : KeepsNeeded needed list rest
   needed_stay u live there =
       let (k, below, is) = place_of u x list there in
       elim (cases_eq k at) [
@@ -72,17 +71,16 @@ module _ (s : Shape) (list rest : List ℕ) (at x : ℕ) (within : at < length l
       ]
 
 -- a list of what is to be looked at after a removal
-module _ {DE UE F A : Type 0} where
-  pub given_fewer : (is_constraint : UE → Bool) (old new : Mesh Point DE UE F) (v : ℕ) (before after fewer : List ℕ) (opened : IsolateVertexResult A)
-      → IsGivenUp is_constraint old new v before after opened → KeepsNeeded new.shape after fewer → IsGivenUp is_constraint old new v before fewer opened
-  given_fewer is_constraint old new v before after fewer opened given keeps = record {
+module _ {DE UE F : Type 0} where
+  pub given_fewer : (is_constraint : UE → Bool) (old new : Mesh Point DE UE F) (v : ℕ) (before after fewer : List ℕ)
+      → IsEmptied is_constraint old new v before after → KeepsNeeded (edge_is_live new.shape) after fewer → IsEmptied is_constraint old new v before fewer
+  given_fewer is_constraint old new v before after fewer given keeps = record {
     mesh = given.mesh;
     vertices = given.vertices;
     points = given.points;
     edges = given.edges;
     faces = given.faces;
     removal = given.removal;
-    named = given.named;
     euler = given.euler;
     triangles = given.triangles;
     plane = given.plane;

@@ -3,7 +3,6 @@ use Rattle.std.proofs.Common.{◌≡◌, ◌≢◌, ◌⊎◌, ◌↔◌, inl, i
 use Rattle.std.proofs.lemmas.Bool.{cases_lt, false≢true, ne_eqb}
 use Rattle.std.proofs.lemmas.List.{length-reverse, map-append}
 use Rattle.std.proofs.lemmas.Option.{slice_get_read}
-use Rattle.spade_dcel.specs.declared.operations.results.IsolateVertexResult.{IsolateVertexResult}
 use Rattle.dcel_maps.specs.Removals.{Cleaned, gives_up_vertex}
 use Rattle.dcel_maps.specs.Renumbered.{new_edge, new_half}
 use Rattle.dcel_maps.specs.Renumbering.{cleaned, cleaned_up, edges_down, faces_down, moved, vertex_taken_out}
@@ -21,7 +20,7 @@ use Rattle.dcel_plane.specs.hull.Straight.{IsStraight}
 use Rattle.dcel_plane.proofs.removal.Renumbering.{cleanup_keeps, cleanup_lists, cleanup_straight, cleanup_was_inner, taken_out_keeps, taken_out_lists, taken_out_straight, taken_out_was_inner}
 use Rattle.dcel_planar.specs.Growing.{HasHull, IsFlat, IsJoined}
 use Rattle.dcel_planar.specs.Legalization.{ListsLoose}
-use Rattle.dcel_delaunay.specs.Removing.{IsGivenUp, Loses}
+use Rattle.dcel_delaunay.specs.Removing.{IsEmptied, Loses}
 use Rattle.dcel_delaunay.specs.Staying.{LeavesLegal, LosesNoneStaying, StaysBetween}
 use Rattle.dcel_delaunay.specs.declared.removed.Removed.{Removed}
 use Rattle.dcel_delaunay.proofs.Emptied.{at_points}
@@ -31,7 +30,7 @@ use Rattle.dcel_delaunay.proofs.Staying.{leaves_staying, left_staying, lists_liv
 euler_after : (v f e k j vn fn en : ℕ) → v + f + k ≡ e + j + 3 → 0 < v → k ≤ e → j ≤ f → vn ≡ v - 1 → fn ≡ f - j → en ≡ e - k → vn + fn ≡ en + 2
 euler_after v f e k j vn fn en euler some few_edges few_faces vertices faces edges = omega (arith, euler, some, few_edges, few_faces, vertices, faces, edges)
 
-module _ {DE UE F A : Type 0} (stays : UE → Bool) (old mid : Mesh Point DE UE F) (v : ℕ) (before due : List ℕ) (out : IsolateVertexResult A) (given : IsGivenUp stays old mid v before due out) (below : v < old.shape.vertices)
+module _ {DE UE F : Type 0} (stays : UE → Bool) (old mid : Mesh Point DE UE F) (v : ℕ) (before due : List ℕ) (given : IsEmptied stays old mid v before due) (below : v < old.shape.vertices)
     (many : 1 < old.shape.vertices) (clean : IsMesh (cleaned_up mid)) (done : IsMesh (vertex_taken_out (cleaned_up mid) v)) where
   abbrev c : Mesh Point DE UE F
   c = cleaned_up mid
@@ -179,7 +178,7 @@ module _ {DE UE F A : Type 0} (stays : UE → Bool) (old mid : Mesh Point DE UE 
         ∙ ap (λ (points : List Point). slice_index_or points w origin_point) points_are;
   }
 
-module _ {DE UE F A : Type 0} (stays : UE → Bool) (old mid new : Mesh Point DE UE F) (v : ℕ) (before due items : List ℕ) (out : IsolateVertexResult A) (given : IsGivenUp stays old mid v before due out)
+module _ {DE UE F : Type 0} (stays : UE → Bool) (old mid new : Mesh Point DE UE F) (v : ℕ) (before due items : List ℕ) (given : IsEmptied stays old mid v before due)
     (below : v < old.shape.vertices) (many : 1 < old.shape.vertices) (clean : IsMesh (cleaned_up mid)) (after : IsMesh new) (is : new ≡ vertex_taken_out (cleaned_up mid) v)
     (renamed : items ≡ map (new_edge mid.shape) due) where
   done : IsMesh (vertex_taken_out (cleaned_up mid) v)
@@ -188,14 +187,14 @@ module _ {DE UE F A : Type 0} (stays : UE → Bool) (old mid new : Mesh Point DE
   pub taken_sound : LeavesLegal stays old new before items
   taken_sound =
       subst (λ (list : List ℕ). LeavesLegal stays old new before list) (sym renamed)
-      (subst (λ (k : Mesh Point DE UE F). LeavesLegal stays old k before (map (new_edge mid.shape) due)) (sym is) (removed_sound stays old mid v before due out given below many clean done))
+      (subst (λ (k : Mesh Point DE UE F). LeavesLegal stays old k before (map (new_edge mid.shape) due)) (sym is) (removed_sound stays old mid v before due given below many clean done))
 
   pub taken_staying : LosesNoneStaying stays old new v
-  taken_staying = subst (λ (k : Mesh Point DE UE F). LosesNoneStaying stays old k v) (sym is) (removed_staying stays old mid v before due out given below many clean done)
+  taken_staying = subst (λ (k : Mesh Point DE UE F). LosesNoneStaying stays old k v) (sym is) (removed_staying stays old mid v before due given below many clean done)
 
   pub taken_hull : IsFlat new ⊎ HasHull new
-  taken_hull = subst (λ (k : Mesh Point DE UE F). IsFlat k ⊎ HasHull k) (sym is) (removed_hull stays old mid v before due out given below many clean done)
+  taken_hull = subst (λ (k : Mesh Point DE UE F). IsFlat k ⊎ HasHull k) (sym is) (removed_hull stays old mid v before due given below many clean done)
 
   pub taken_loses : (r : Removed) → r.point ≡ slice_index_or (cleaned_up mid).vertex_data v r.point
       → r.moved ≡ cond (v == (cleaned_up mid).shape.vertices - 1) None (Some ((cleaned_up mid).shape.vertices - 1)) → Loses old new v r
-  taken_loses r point moves = subst (λ (k : Mesh Point DE UE F). Loses old k v r) (sym is) (removed_loses stays old mid v before due out given below many clean done r point moves)
+  taken_loses r point moves = subst (λ (k : Mesh Point DE UE F). Loses old k v r) (sym is) (removed_loses stays old mid v before due given below many clean done r point moves)

@@ -26,6 +26,8 @@ use Rattle.dcel_planar.specs.declared.planar.PlanarMesh.{PlanarMesh}
 use Rattle.dcel_delaunay.specs.Staying.{KeepsOthersStaying}
 use Rattle.dcel_delaunay.specs.declared.errors.RemovalError.{RemovalError}
 use Rattle.dcel_delaunay.specs.declared.errors.RemovalError.TheVariants.{NoVertex, OutOfMemory, TooManyPoints, Unfinished}
+use Rattle.dcel_delaunay.specs.declared.remove.hole.Border.{Border}
+use Rattle.dcel_delaunay.specs.declared.remove.hole.Border.TheVariants.{Triangle, Square}
 use Rattle.dcel_delaunay.specs.declared.removed.Removed.{Removed}
 
 -- no out edge of the vertex v lies on the outer face
@@ -66,6 +68,11 @@ module _ {DE UE F : Type 0} where
     pub round : IsBorderLoop m.shape border v
     pub triangles : (length border ≡ 3) ⊎ ((length border ≡ 4) × MakesTwo (point_at m) m.shape round.first)
 
+  -- the same, as the call finds it
+  abbrev pub IsBorder : Mesh Point DE UE F → ℕ → Border → Type 0
+  IsBorder m v (Triangle border) = IsFilled m v border × (length border ≡ 3)
+  IsBorder m v (Square border) = IsFilled m v border × (length border ≡ 4)
+
   -- v is a corner of the hull, where the outer half edge h starts, and none of its edges can be flipped so
   pub record IsHullCorner (m : Mesh Point DE UE F) (v h : ℕ) : Type 0 where
     pub outside : StartsOutside m v h
@@ -104,20 +111,24 @@ module _ {DE UE F : Type 0} where
 module _ {DE UE F : Type 0} (stays : UE → Bool) where
   -- v is given up, with edges and faces of the numbers that Euler's formula wants, and what is left lies in the plane with its hull, or on a
   -- line; edges that have to stay are left
-  pub record IsGivenUp {A : Type 0} (old new : Mesh Point DE UE F) (v : ℕ) (before after : List ℕ) (opened : IsolateVertexResult A) : Type 0 where
+  pub record IsEmptied (old new : Mesh Point DE UE F) (v : ℕ) (before after : List ℕ) : Type 0 where
     pub mesh : IsMesh new
     pub vertices : new.shape.vertices ≡ old.shape.vertices
     pub points : new.vertex_data ≡ old.vertex_data
     pub edges : List ℕ
     pub faces : List ℕ
     pub removal : new.shape.removal ≡ Isolated edges faces (Some v)
-    pub named : IsListed new.shape.removal opened.edges_to_remove.items opened.faces_to_remove.items
     pub euler : old.shape.vertices + face_count new.shape + length edges ≡ new.shape.edges + length faces + 3
     pub triangles : AllTriangles new.shape
     pub plane : TrianglesTurnLeft (point_at new) new.shape
     pub listed : ListsLoose stays old before → ListsLoose stays new after
     pub left : HasOutline new ⊎ IsStrung new
     pub staying : KeepsOthersStaying stays old new v
+
+  -- the same, and the result names what is given up
+  pub record IsGivenUp {A : Type 0} (old new : Mesh Point DE UE F) (v : ℕ) (before after : List ℕ) (opened : IsolateVertexResult A) : Type 0 where
+    pub emptied : IsEmptied old new v before after
+    pub named : IsListed new.shape.removal opened.edges_to_remove.items opened.faces_to_remove.items
 
 module _ {UE A : Type 0} where
   -- the vertex v isn't taken out

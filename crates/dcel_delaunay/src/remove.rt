@@ -12,6 +12,7 @@ mod ears;
 mod flips;
 mod hole;
 mod line;
+mod triangle;
 mod triangles;
 
 use crate::errors::RemovalError;

@@ -2,3 +2,5 @@ mod Dots
 mod Exceptions
 mod Growth
 mod Judged
+mod Reached
+mod Steps

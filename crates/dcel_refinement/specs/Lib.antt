@@ -1,2 +1,3 @@
 pub mod Quality
 pub mod Refined
+pub mod Tangents

@@ -1,14 +1,16 @@
 //! Refinement of constrained Delaunay triangulations: vertices are added until no angle is smaller
 //! and no triangle larger than asked.
 //!
-//! Start with [`refine`]. It uses only the public calls of `dcel_constrained`. Points are chosen as
-//! by J. Ruppert ("A Delaunay refinement algorithm for quality 2-dimensional mesh generation", 1995).
-//! That choice is not proved: the result is tested in the end, exactly, and that test is.
+//! Start with [`refine`]. It uses only the public calls of `dcel_constrained`, and for degrees the
+//! [`Grid`](dcel_floats::Grid) of `dcel_floats`. Points are chosen as by J. Ruppert ("A Delaunay
+//! refinement algorithm for quality 2-dimensional mesh generation", 1995). That choice is not
+//! proved: the result is tested in the end, exactly, and that test is.
 #![tactic(auto)]
 
 mod centers;
 mod due;
 mod judging;
+pub mod laws;
 mod parameters;
 mod points;
 mod quality;
@@ -16,6 +18,7 @@ mod queue;
 mod ranks;
 mod refining;
 mod segments;
+mod tangents;
 mod vectors;
 mod ways;
 

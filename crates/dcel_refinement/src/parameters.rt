@@ -1,8 +1,9 @@
 //! What a refinement is to reach.
 
-ghost use Rattle.std.specs.Prelude.{◌≡◌};
+ghost use Rattle.std.specs.Prelude.{◌≡◌, ◌≤◌, ℕ};
+ghost use Rattle.dcel_refinement.specs.Tangents.{Reaches, steps_of};
 
-use std::num::saturating_f64_to_u16;
+use crate::tangents::{RUN, least_rise, least_steps};
 
 /// A smallest angle, below 90 degrees: the one whose tangent is `rise / run`.
 #[derive(Clone, Copy, PartialEq, Eq, Debug)]
@@ -15,45 +16,20 @@ pub struct AngleLimit {
 
 impl AngleLimit {
     /// Returns the limit of so many degrees, from 0 to 45, rounded up to a tangent with the
-    /// denominator 65535. Outside of that range the nearest limit is taken.
+    /// denominator 65535. Outside of that range the nearest limit is taken, and for NaN that of 0.
     ///
-    /// Above 20.7 degrees a refinement need not end, and above 34 it rarely does.
+    /// Degrees are first rounded up to a multiple of 1/65536, so the limit is never smaller. Above
+    /// 20.7 degrees a refinement need not end, and above 34 it rarely does.
     pub fn from_degrees(degrees: f64) -> AngleLimit
-        ensures { result.run ≡ 65535 }
+        ensures run { result.run ≡ 65535 }
+        ensures reaches { Reaches (steps_of degrees) result.rise result.run }
+        ensures least { (rise : ℕ) → Reaches (steps_of degrees) rise result.run → result.rise ≤ rise }
     {
-        let angle = if degrees > 0.0 {
-            degrees.min(45.0)
-        } else {
-            0.0
-        } * (3.14159265358979323846 / 180.0);
-        let rise = if angle > 0.0 {
-            tangent(angle) * 65535.0 + 1.0
-        } else {
-            0.0
-        };
         AngleLimit {
-            rise: saturating_f64_to_u16(rise),
-            run: 65535,
+            rise: least_rise(least_steps(degrees)),
+            run: RUN,
         }
     }
-}
-
-// Returns the tangent of an angle from 0 to an eighth of a circle, by the series of sine and cosine.
-fn tangent(angle: f64) -> f64 {
-    let square = angle * angle;
-    let mut sine = 0.0;
-    let mut cosine = 0.0;
-    // Each turn adds the terms of the powers 2k and 2k + 1.
-    let mut even = 1.0;
-    let mut factor = 0.0;
-    for _power in 0..12 {
-        let odd = even * angle / (factor + 1.0);
-        cosine += even;
-        sine += odd;
-        even = -(even * square / ((factor + 1.0) * (factor + 2.0)));
-        factor += 2.0;
-    }
-    sine / cosine
 }
 
 /// The faces that a refinement is about.

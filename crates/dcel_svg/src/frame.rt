@@ -4,6 +4,8 @@ ghost use Rattle.std.specs.Prelude.{◌≡◌, ◌≤◌, ◌*◌, length};
 
 use crate::curve::steps_of;
 use crate::svg::Style;
+use crate::svg::dots::NUMBERED;
+use crate::svg::labels::letters_of;
 use dcel_drawn::{Bend, Line, Picture, Place};
 use std::alloc::Allocator;
 use std::num::{nearest_usize_to_f64, saturating_f64_to_usize};
@@ -20,6 +22,9 @@ const SIDE: f64 = 800.0;
 /// How much is left free on each side.
 const MARGIN: f64 = 50.0;
 
+/// How wide a digit is, at most, where edges are drawn alone.
+const DIGIT: f64 = 8.0;
+
 /// How far vertices at the side stand from one another.
 const APART: f64 = 44.0;
 
@@ -35,6 +40,8 @@ pub struct Extent {
     vertices: usize,
     /// How many vertices of one of the pictures have no place, at most.
     aside: usize,
+    /// The greatest number of a vertex.
+    greatest: usize,
 }
 
 impl Extent {
@@ -47,6 +54,7 @@ impl Extent {
             wanted: 0.0,
             vertices: 0,
             aside: 0,
+            greatest: 0,
         }
     }
 
@@ -59,6 +67,7 @@ impl Extent {
         self.wanted = wanted_scale(self.wanted, picture);
         self.vertices = self.vertices.max(picture.dots.len());
         self.aside = self.aside.max(count_aside(picture));
+        self.greatest = self.greatest.max(greatest_number(picture));
     }
 }
 
@@ -71,6 +80,8 @@ pub struct Frame {
     scale: f64,
     low: Place,
     high: Place,
+    /// How much is left free on the right.
+    right: f64,
     columns: usize,
     rows: usize,
 }
@@ -104,6 +115,7 @@ impl Frame {
             scale,
             low,
             high,
+            right: right_margin(extent, style),
             columns,
             rows: if columns == 0 {
                 0
@@ -158,7 +170,7 @@ impl Frame {
             APART * nearest_usize_to_f64(self.rows),
         );
         Place::new(
-            (size.x + 2.0 * MARGIN).max(aside.x + MARGIN),
+            (size.x + MARGIN + self.right).max(aside.x + MARGIN),
             size.y + 2.0 * MARGIN + aside.y,
         )
     }
@@ -184,6 +196,24 @@ fn count_aside<B: Allocator>(picture: &Picture<B>) -> usize {
         }
     }
     count
+}
+
+/// Returns the greatest number of a vertex, or 0 if there are none.
+fn greatest_number<B: Allocator>(picture: &Picture<B>) -> usize {
+    let mut greatest = 0;
+    for dot in &picture.dots {
+        greatest = greatest.max(dot.number);
+    }
+    greatest
+}
+
+/// Returns how much is left free on the right, where numbers stand beside vertices.
+fn right_margin(extent: Extent, style: Style) -> f64 {
+    if style != Style::Edges || extent.vertices > NUMBERED {
+        return MARGIN;
+    }
+    // One letter more leaves room for the vertex.
+    MARGIN.max(DIGIT * nearest_usize_to_f64(letters_of(extent.greatest)))
 }
 
 /// Returns the lower left and the upper right corner of places so far and those of a picture.

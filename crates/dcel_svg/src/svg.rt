@@ -2,19 +2,21 @@
 
 mod arrow;
 mod colors;
-mod dots;
-mod labels;
+pub(crate) mod dots;
+pub(crate) mod labels;
 mod numbers;
 mod patches;
+mod plain;
 mod room;
 mod strokes;
 
 use crate::frame::Frame;
 use crate::marks::Marks;
-use crate::svg::dots::write_dots;
+use crate::svg::dots::write_circles;
 use crate::svg::labels::write_labels;
 use crate::svg::numbers::{At, Tenths};
 use crate::svg::patches::{write_given_up_patches, write_live_patches};
+use crate::svg::plain::write_plain;
 use crate::svg::room::Room;
 use crate::svg::strokes::{write_edges, write_strokes};
 use dcel_drawn::Picture;
@@ -29,7 +31,9 @@ pub enum Style {
         /// Whether the anchors of vertices and faces are marked.
         anchors: bool,
     },
-    /// Edges, wider where the outer face is, and vertices, with their numbers if they are few.
+    /// Inner faces as one area, edges, and vertices, with their numbers if they are few. Edges are
+    /// wider with the outer face on one side, and dashed with it on both. Where vertices are many
+    /// they are small, and edges thin; without inner faces vertices are larger.
     Edges,
 }
 
@@ -58,15 +62,6 @@ text { font-family: 'DejaVu Sans', Verdana, sans-serif; text-anchor: middle; }
 </defs>
 ";
 
-const STYLE_OF_EDGES: &str = "\
-<style>
-.edge { stroke: #6b7a8f; stroke-width: 1.2; fill: none; }
-.border { stroke: #b3541e; stroke-width: 3; fill: none; }
-.dot { fill: #1b2a41; }
-.number { fill: #1b2a41; font: 12px sans-serif; }
-</style>
-";
-
 /// What is marked.
 const STYLE_OF_MARKS: &str = "\
 <style>
@@ -78,7 +73,8 @@ const STYLE_OF_MARKS: &str = "\
 ///
 /// In the style of half edges each is an arrow beside its edge, on the side of its face, with its number; faces are
 /// areas with their numbers after an F, and the outer face, F0, is all around them. What an open
-/// removal has given up is dashed and hatched. Vertices without a place stand below.
+/// removal has given up is dashed and hatched. Vertices without a place stand below. Opened alone in
+/// a browser, the document is no larger than its window.
 ///
 /// Fails if a write fails or memory runs out; a part may be written by then.
 pub fn write_svg<B: Allocator + Copy>(
@@ -98,28 +94,24 @@ pub fn write_marked_svg<B: Allocator + Copy>(
     marks: &Marks<B>,
     out: &mut impl Write,
 ) -> io::Result<()> {
-    let (style, corner, size) = (frame.style, frame.corner(), frame.size());
+    let (corner, size) = (frame.corner(), frame.size());
     writeln!(
         out,
-        "<svg xmlns=\"http://www.w3.org/2000/svg\" viewBox=\"{} {} {}\" width=\"{}\" height=\"{}\">",
+        "<svg xmlns=\"http://www.w3.org/2000/svg\" viewBox=\"{} {} {}\" width=\"{}\" height=\"{}\" style=\"max-width: 100%; max-height: 100%\">",
         At(corner),
         Tenths(size.x),
         Tenths(size.y),
         Tenths(size.x),
         Tenths(size.y)
     )?;
-    match style {
+    match frame.style {
         Style::HalfEdges { anchors } => write_half_edges(picture, frame, anchors, marks, out)?,
-        Style::Edges => {
-            write!(out, "{STYLE_OF_EDGES}")?;
-            write_edges(picture, frame, style, out)?;
-        }
+        Style::Edges => write_plain(picture, frame, out)?,
     }
-    write_dots(picture, frame, style, marks, out)?;
     writeln!(out, "</svg>")
 }
 
-/// Writes all but the vertices in the style of half edges.
+/// Writes all of a picture in the style of half edges.
 fn write_half_edges<B: Allocator + Copy>(
     picture: &Picture<B>,
     frame: &Frame,
@@ -133,8 +125,9 @@ fn write_half_edges<B: Allocator + Copy>(
     }
     write_live_patches(picture, frame, out)?;
     write_given_up_patches(picture, frame, out)?;
-    write_edges(picture, frame, Style::HalfEdges { anchors }, out)?;
+    write_edges(picture, frame, out)?;
     let mut room = Room::around(picture, frame)?;
     write_strokes(picture, frame, anchors, marks, &mut room, out)?;
-    write_labels(picture, frame, &mut room, out)
+    write_labels(picture, frame, &mut room, out)?;
+    write_circles(picture, frame, marks, out)
 }

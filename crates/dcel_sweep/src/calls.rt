@@ -1,11 +1,11 @@
 //! Calls alone, each on a mesh of its own without spare room: by the operation itself and as a
-//! command, or on a whole mesh.
+//! command, on a whole mesh, or from a triangle.
 
 use crate::operations::{operate, operation};
 use crate::rows::{Row, number, rows_of};
 use crate::swept::Swept;
 use crate::watched::{fitted, made};
-use crate::whole;
+use crate::{triangles, whole};
 use dcel_bench::checks::{holds, same};
 use dcel_bench::lines::{has_memory, read_command};
 use dcel_bench::meshes::Mesh;
@@ -25,6 +25,8 @@ pub enum Way {
     Apply,
     /// On a whole mesh, by a call that is no command.
     Whole,
+    /// From a triangle, by a call that is no command and does what three do.
+    FromTriangle,
 }
 
 /// A call that is refused a request.
@@ -54,6 +56,7 @@ fn function(line: &str, way: Way) -> Result<&'static str, Fail> {
         Way::Operation => operation(line),
         Way::Apply => Ok("apply"),
         Way::Whole => whole::function(line),
+        Way::FromTriangle => Ok(triangles::FUNCTION),
     }
 }
 
@@ -70,6 +73,20 @@ fn carry_out<'a>(
     }
 }
 
+/// Makes the call of a command with these requests refused. Returns whether there was memory.
+fn make_line<'a>(
+    dcel: &mut Watched<'a>,
+    memory: Memory<'a>,
+    line: &str,
+    way: Way,
+    refusals: Refusals,
+) -> Result<bool, Fail> {
+    // There is memory for the lists of the command.
+    let command = read_command(line, memory)?;
+    memory.refuse(refusals);
+    carry_out(dcel, memory, command, way)
+}
+
 /// Makes the call with these requests refused. Returns whether there was memory.
 ///
 /// Without memory, what was handed in has come back.
@@ -81,13 +98,11 @@ pub fn make<'a>(
     refusals: Refusals,
 ) -> Result<bool, Fail> {
     memory.refuse(Refusals::None);
-    if let Way::Whole = way {
-        return whole::make(dcel, memory, line, refusals);
+    match way {
+        Way::Whole => whole::make(dcel, memory, line, refusals),
+        Way::FromTriangle => triangles::make(dcel, memory, line, refusals),
+        _ => make_line(dcel, memory, line, way, refusals),
     }
-    // There is memory for the lists of the command.
-    let command = read_command(line, memory)?;
-    memory.refuse(refusals);
-    carry_out(dcel, memory, command, way)
 }
 
 /// Makes the call with its request refused. Returns whether the request came, after checking that
@@ -139,14 +154,20 @@ fn comes(case: Case, snapshots: [&Snapshot; 2], alloc: Global) -> Result<bool, F
     comes_to(&mut dcel, &memory, case, snapshots, alloc)
 }
 
-/// Makes the call of a row on a mesh that isn't refused memory.
+/// Does what the call of a row does, on a mesh that isn't refused memory. Returns whether there was
+/// memory.
 ///
 /// A call on a whole mesh leaves it as it is.
-fn carry_out_row(dcel: &mut Mesh, row: Row, way: Way, alloc: Global) -> Result<(), Fail> {
-    if let Way::Whole = way {
-        return Ok(());
+fn is_carried_out(dcel: &mut Mesh, line: &str, way: Way, alloc: Global) -> Result<bool, Fail> {
+    match way {
+        Way::Whole => Ok(true),
+        Way::FromTriangle => triangles::make_three(dcel, line, alloc),
+        _ => has_memory(dcel, read_command(line, alloc)?),
     }
-    let is_made = has_memory(dcel, read_command(row.line, alloc)?)?;
+}
+
+fn carry_out_row(dcel: &mut Mesh, row: Row, way: Way, alloc: Global) -> Result<(), Fail> {
+    let is_made = is_carried_out(dcel, row.line, way, alloc)?;
     holds(is_made, row.line)
 }
 
@@ -232,6 +253,14 @@ pub fn sweep_commands(block: &str, swept: &mut Swept, alloc: Global) -> Result<(
 pub fn sweep_meshes(block: &str, swept: &mut Swept, alloc: Global) -> Result<(), Fail> {
     for row in &rows_of(block, alloc)? {
         sweep(*row, Way::Whole, swept, alloc)?;
+    }
+    Ok(())
+}
+
+/// Sweeps vertices removed from triangles.
+pub fn sweep_removals(block: &str, swept: &mut Swept, alloc: Global) -> Result<(), Fail> {
+    for row in &rows_of(block, alloc)? {
+        sweep(*row, Way::FromTriangle, swept, alloc)?;
     }
     Ok(())
 }

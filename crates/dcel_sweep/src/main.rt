@@ -3,7 +3,7 @@
 //! was passed in has to be back, and exactly the call that met the refusal has to report it. Then
 //! the call is repeated, and has to leave what it leaves if nothing is refused.
 //!
-//! Its arguments name files of rows: in `.calls` and `.meshes` only calls, in `.flips`
+//! Its arguments name files of rows: in `.calls`, `.meshes` and `.removals` only calls, in `.flips`
 //! legalizations, in `.lists` commands one after another, in `.runs` lines. Blocks of a file are
 //! separated by empty lines; `#` begins a comment. The lines of a block construct a mesh. A line
 //! after a number is a row: the number is that of its requests for memory.
@@ -22,6 +22,7 @@ mod removes;
 mod rows;
 mod runs;
 mod swept;
+mod triangles;
 mod watched;
 mod whole;
 
@@ -69,6 +70,7 @@ fn sweep_block(kind: &str, block: &str, swept: &mut Swept, alloc: Global) -> Res
     match kind {
         "calls" => calls::sweep_commands(block, swept, alloc),
         "meshes" => calls::sweep_meshes(block, swept, alloc),
+        "removals" => calls::sweep_removals(block, swept, alloc),
         "flips" => flips::sweep_block(block, swept, alloc),
         "lists" => lists::sweep_block(block, swept, alloc),
         "runs" => runs::sweep_block(block, swept, alloc),

@@ -126,7 +126,7 @@ fn after(dcel: &Mesh, edge: FixedDirectedEdgeHandle) -> Result<FixedDirectedEdge
 }
 
 /// Returns the border loop of a vertex inside triangles, walked from the last out edge back.
-fn border_of(
+pub fn border_of(
     dcel: &Mesh,
     center: FixedVertexHandle,
     alloc: Global,
@@ -163,13 +163,20 @@ fn give_up(
     clean_up(dcel, &mut opened)
 }
 
+/// The datum of a vertex that was removed, and the vertex that got its number, if one did.
+pub type Removed = (i64, Option<FixedVertexHandle>);
+
 /// Removes a vertex: it is given up with its border loop, and the hole is filled and cleaned up.
-fn take_out(dcel: &mut Mesh, center: FixedVertexHandle, alloc: Global) -> Result<(), Fail> {
+pub fn take_out(
+    dcel: &mut Mesh,
+    center: FixedVertexHandle,
+    alloc: Global,
+) -> Result<Removed, Fail> {
     let border = border_of(dcel, center, alloc)?;
     give_up(dcel, center, border)?;
     require!(dcel.can_swap_remove(center));
-    swap_remove_vertex(dcel, center);
-    Ok(())
+    let removed = swap_remove_vertex(dcel, center);
+    Ok((removed.removed_vertex, removed.swapped_in_vertex))
 }
 
 /// Removes a vertex inside triangles, and checks that the mesh is sound, and its counts of

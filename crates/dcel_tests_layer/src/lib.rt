@@ -19,6 +19,8 @@ mod elements_data;
 #[cfg(test)]
 mod flips;
 #[cfg(test)]
+mod from_triangles;
+#[cfg(test)]
 mod given;
 #[cfg(test)]
 mod limits;

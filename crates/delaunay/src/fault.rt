@@ -19,7 +19,7 @@ pub enum Wrong {
     #[error("a point has two coordinates, here is one")]
     OneWord,
     /// It has more than two.
-    #[error("a point has two coordinates, here are more")]
+    #[error("a point has two coordinates, here are more; --columns takes two of them")]
     MoreWords,
     /// A word is no decimal.
     #[error("a coordinate is no number")]

@@ -3,14 +3,14 @@
 use crate::view::View;
 use dcel_delaunay::Point;
 use dcel_programs::Text;
-use dcel_svg::{Dot, Picture, Place, Places, Stroke, Style, write_svg};
+use dcel_svg::{Dot, Patch, Picture, Place, Places, Stroke, Style, write_svg};
 use spade_dcel::dcel::Dcel;
 use std::alloc::{AllocError, Global};
 use std::io::{self, Write};
 use std::num::nearest_u64_to_f64;
 
-/// A picture of a triangulation: edges, those of the hull wider, and points, with their numbers if
-/// they are few. Where edges may be marked these are the wider ones.
+/// A picture of a triangulation: triangles as one area, edges, those of the hull wider, and points,
+/// with their numbers if they are few. Where edges may be marked these are the wider ones.
 #[derive(Drop)]
 pub struct Svg<'a, UE> {
     /// The triangulation.
@@ -23,6 +23,7 @@ impl<'a, UE> Text for Svg<'a, UE> {
         let mut picture = picture_of(alloc, mesh)?;
         set_numbers(self.view, &mut picture.dots)?;
         set_looks(self.view, &mut picture.strokes);
+        leave_out(self.view, &mut picture.patches);
         write_svg(&picture, Style::Edges, writer)
     }
 }
@@ -46,21 +47,29 @@ fn set_looks<UE>(view: &View<'_, UE>, strokes: &mut [Stroke]) {
 
 /// Leaves an edge out if it isn't shown, and sets whether it is wide where edges may be marked.
 fn set_look<UE>(view: &View<'_, UE>, half: &mut Stroke, other: &mut Stroke) {
-    if !view.shows_edge(half.number / 2) {
+    let edge = half.number / 2;
+    if !view.shows_edge(edge) {
         half.from = None;
         other.from = None;
     }
     if let Some(marks) = view.is_marked {
-        let is_wide = marks.get(half.number / 2) == Some(&true);
-        set_wide(half, is_wide);
-        set_wide(other, is_wide);
+        set_wide(half, other, marks.get(edge) == Some(&true));
     }
 }
 
-/// Has a half edge drawn wide, as those of the outer face are, or not. That is the first of the mesh.
-fn set_wide(half: &mut Stroke, is_wide: bool) {
-    let beside = if is_wide { 0 } else { 1 };
-    half.face = Some(beside);
+/// Has an edge drawn wide, as with the outer face on one side, or not. That is the first of the mesh.
+fn set_wide(half: &mut Stroke, other: &mut Stroke, is_wide: bool) {
+    half.face = Some(if is_wide { 0 } else { 1 });
+    other.face = Some(1);
+}
+
+/// Leaves out the areas of triangles that aren't shown.
+fn leave_out<UE>(view: &View<'_, UE>, patches: &mut [Patch]) {
+    for patch in patches.iter_mut() {
+        if !view.shows_face(patch.number) {
+            patch.outline.clear();
+        }
+    }
 }
 
 /// Returns what is drawn of a mesh.

@@ -1,4 +1,5 @@
 pub mod Changing
+pub mod Constraining
 pub mod Given
 pub mod Held
 pub mod Keeping

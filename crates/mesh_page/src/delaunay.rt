@@ -1,22 +1,25 @@
-//! Delaunay triangulations that are kept: made, and points inserted and removed.
+//! Triangulations that are kept, with constraints and without: made, and points inserted and removed.
 
-ghost use Rattle.std.specs.Prelude.{◌≡◌, ◌≢◌, ◌⊎◌, ◌↔◌, ◌≤◌, ◌<◌, None, length};
-ghost use Rattle.mesh_page.specs.Changing.{FailsToInsertAllOf, FailsToInsertPoint, FailsToRemoveVertex, Finishes, HasNoPoints, InsertsAll, InsertsPoint, RemovesVertex, StaysUnfinished};
+ghost use Rattle.std.specs.Prelude.{◌≡◌, ◌≢◌, ◌⊎◌, ◌↔◌, ◌≤◌, ◌<◌, length};
+ghost use Rattle.mesh_page.specs.Changing.{FailsToInsertAllOf, FailsToInsertOne, FailsToRemoveOne, Finishes, HasNoConstraints, HasNoPoints, Inserts, InsertsAll, Removes, StaysUnfinished};
 ghost use Rattle.mesh_page.specs.Given.{HasFar, IsFar};
-ghost use Rattle.mesh_page.specs.Keeping.{AreSo, IsOpen, IsSo, IsWhole, delaunay_in, thing_in};
-ghost use Rattle.mesh_page.specs.Listing.{IsNearestTo, IsPut, ListsDelaunayTriangles, triangles_of};
+ghost use Rattle.mesh_page.specs.Keeping.{HasNone, IsOpen, IsSo, constrained_in, delaunay_in, thing_in};
+ghost use Rattle.mesh_page.specs.Listing.{HasTriangulation, IsUnfinished, PutsTriangles, TellsNearest};
 
-mod changing;
-mod listing;
+pub(crate) mod changing;
+pub(crate) mod listing;
 
+use crate::constrained::{changing as among, listing as lists_among};
 use crate::desk::Thing;
 use crate::holder::MeshPageKept;
 use crate::kept::put;
 use crate::points::MeshPagePoint;
 use crate::status::{NO_MEMORY, NOT_KEPT};
+use dcel_constrained::ConstrainedTriangulation;
 use dcel_delaunay::{Triangle, Triangulation};
 
-/// Puts a triangulation of no points on a desk, in the heap of another one, and frees what was on it.
+/// Puts a Delaunay triangulation of no points on a desk, in the heap of another one, and frees what was
+/// on it.
 ///
 /// Returns 0; 2 if there is no memory, and 4 if the other desk isn't open: then what was on the desk
 /// stays.
@@ -38,7 +41,27 @@ pub extern "C" fn mesh_page_delaunay(from: &mut MeshPageKept, kept: &mut MeshPag
     }
 }
 
-/// Inserts a point, and reports its vertex: a new one, or the one that is there already.
+/// Puts a constrained Delaunay triangulation of no points on a desk, as `mesh_page_delaunay` does.
+#[unsafe(no_mangle)]
+pub extern "C" fn mesh_page_constrained(from: &mut MeshPageKept, kept: &mut MeshPageKept) -> u32
+    ensures done { result ≡ 0 → IsSo HasNoConstraints (constrained_in kept.new) }
+    ensures refused { result ≢ 0 → thing_in kept.new ≡ thing_in kept.old }
+    ensures none { (result ≡ 4) ↔ (¬ IsOpen from.old) }
+    ensures status { (result ≡ 0) ⊎ (result ≡ 2) ⊎ (result ≡ 4) }
+    ensures same { thing_in from.new ≡ thing_in from.old }
+{
+    if !from.is_open {
+        return NOT_KEPT;
+    }
+    let heap = from.held.as_mut().heap;
+    match ConstrainedTriangulation::new(heap) {
+        Ok(made) => put(heap, kept, Thing::Constrained(made)),
+        Err(_) => NO_MEMORY,
+    }
+}
+
+/// Inserts a point, and reports its vertex: a new one, or the one that is there already. A constraint
+/// that the point is on becomes two.
 ///
 /// Returns 0; 2 if there is no memory, 7 if there are no numbers left, and 3 if a coordinate is out of
 /// range: no vertex is added then; 5 if memory ran out afterwards: the vertex is there, the last one,
@@ -49,9 +72,9 @@ pub extern "C" fn mesh_page_insert(
     point: MeshPagePoint,
     vertex: &mut u32,
 ) -> u32
-    ensures done { result ≡ 0 → AreSo (InsertsPoint point vertex.new) (delaunay_in kept.old) (delaunay_in kept.new) }
-    ensures fails { result ≢ 0 → result ≢ 3 → result ≢ 4 → AreSo (FailsToInsertPoint point result) (delaunay_in kept.old) (delaunay_in kept.new) }
-    ensures none { (result ≡ 4) ↔ (delaunay_in kept.old ≡ None) }
+    ensures done { result ≡ 0 → Inserts point vertex.new (thing_in kept.old) (thing_in kept.new) }
+    ensures fails { result ≢ 0 → result ≢ 3 → result ≢ 4 → FailsToInsertOne point result (thing_in kept.old) (thing_in kept.new) }
+    ensures none { (result ≡ 4) ↔ HasNone (thing_in kept.old) }
     ensures out_of_range { result ≡ 3 → IsFar point }
     ensures same { (result ≡ 3) ⊎ (result ≡ 4) → thing_in kept.new ≡ thing_in kept.old }
     ensures untold { result ≢ 0 → vertex.new ≡ vertex.old }
@@ -61,6 +84,7 @@ pub extern "C" fn mesh_page_insert(
     }
     match &mut kept.held.as_mut().thing {
         Thing::Delaunay(points) => changing::insert(points, point, vertex),
+        Thing::Constrained(points) => among::insert(points, point, vertex),
         Thing::Nothing => NOT_KEPT,
     }
 }
@@ -77,11 +101,11 @@ pub extern "C" fn mesh_page_insert_all(
     points: &[MeshPagePoint],
     vertices: &mut [u32],
 ) -> u32
-    ensures done { result ≡ 0 → AreSo (InsertsAll points.now vertices.old vertices.new) (delaunay_in kept.old) (delaunay_in kept.new) }
+    ensures done { result ≡ 0 → InsertsAll points.now vertices.old vertices.new (thing_in kept.old) (thing_in kept.new) }
     ensures fits { result ≡ 0 → length points.now ≤ length vertices.old }
     ensures fails { result ≢ 0 → result ≢ 1 → result ≢ 3 → result ≢ 4 →
-        AreSo (FailsToInsertAllOf points.now result) (delaunay_in kept.old) (delaunay_in kept.new) }
-    ensures none { (result ≡ 4) ↔ (delaunay_in kept.old ≡ None) }
+        FailsToInsertAllOf points.now result (thing_in kept.old) (thing_in kept.new) }
+    ensures none { (result ≡ 4) ↔ HasNone (thing_in kept.old) }
     ensures short { result ≡ 1 → length vertices.old < length points.now }
     ensures out_of_range { result ≡ 3 → HasFar points.now }
     ensures same { (result ≡ 1) ⊎ ((result ≡ 3) ⊎ (result ≡ 4)) → thing_in kept.new ≡ thing_in kept.old }
@@ -94,22 +118,22 @@ pub extern "C" fn mesh_page_insert_all(
     let heap = desk.heap;
     match &mut desk.thing {
         Thing::Delaunay(kept) => changing::insert_all(heap, kept, points, vertices),
+        Thing::Constrained(kept) => among::insert_all(heap, kept, points, vertices),
         Thing::Nothing => NOT_KEPT,
     }
 }
 
-/// Removes a vertex with its point. The last vertex gets its number, and `moved` is the number that
-/// this had before, or 2^64 - 1 if it was the last itself.
+/// Removes a vertex with its point, and with the constraints that end at it. The last vertex gets its
+/// number, and `moved` is the number that this had before, or 2^64 - 1 if it was the last itself.
 ///
 /// Returns 0; 6 if there is no such vertex, 2 if there is no memory, and 7 if there are no numbers
-/// left: then all vertices keep their points; 5 if memory ran out afterwards: the vertex is gone, and
+/// left: then all vertices keep their points, but with 2 constraints that end there may be freed; 5 if memory ran out afterwards: the vertex is gone, and
 /// `moved` is set, but the triangulation isn't whole; 4 if no triangulation is kept.
 #[unsafe(no_mangle)]
 pub extern "C" fn mesh_page_remove(kept: &mut MeshPageKept, vertex: u32, moved: &mut u64) -> u32
-    ensures done { result ≡ 0 → AreSo (RemovesVertex vertex moved.new) (delaunay_in kept.old) (delaunay_in kept.new) }
-    ensures fails { result ≢ 0 → result ≢ 4 →
-        AreSo (FailsToRemoveVertex vertex result moved.old moved.new) (delaunay_in kept.old) (delaunay_in kept.new) }
-    ensures none { (result ≡ 4) ↔ (delaunay_in kept.old ≡ None) }
+    ensures done { result ≡ 0 → Removes vertex moved.new (thing_in kept.old) (thing_in kept.new) }
+    ensures fails { result ≢ 0 → result ≢ 4 → FailsToRemoveOne vertex result moved.old moved.new (thing_in kept.old) (thing_in kept.new) }
+    ensures none { (result ≡ 4) ↔ HasNone (thing_in kept.old) }
     ensures same { result ≡ 4 → (thing_in kept.new ≡ thing_in kept.old) × (moved.new ≡ moved.old) }
 {
     if !kept.is_open {
@@ -117,6 +141,7 @@ pub extern "C" fn mesh_page_remove(kept: &mut MeshPageKept, vertex: u32, moved: 
     }
     match &mut kept.held.as_mut().thing {
         Thing::Delaunay(points) => changing::remove(points, vertex, moved),
+        Thing::Constrained(points) => among::remove(points, vertex, moved),
         Thing::Nothing => NOT_KEPT,
     }
 }
@@ -127,9 +152,9 @@ pub extern "C" fn mesh_page_remove(kept: &mut MeshPageKept, vertex: u32, moved: 
 /// is kept.
 #[unsafe(no_mangle)]
 pub extern "C" fn mesh_page_finish(kept: &mut MeshPageKept) -> u32
-    ensures done { result ≡ 0 → AreSo Finishes (delaunay_in kept.old) (delaunay_in kept.new) }
-    ensures no_memory { result ≡ 2 → AreSo StaysUnfinished (delaunay_in kept.old) (delaunay_in kept.new) }
-    ensures none { (result ≡ 4) ↔ (delaunay_in kept.old ≡ None) }
+    ensures done { result ≡ 0 → Finishes (thing_in kept.old) (thing_in kept.new) }
+    ensures no_memory { result ≡ 2 → StaysUnfinished (thing_in kept.old) (thing_in kept.new) }
+    ensures none { (result ≡ 4) ↔ HasNone (thing_in kept.old) }
     ensures status { (result ≡ 0) ⊎ (result ≡ 2) ⊎ (result ≡ 4) }
     ensures same { result ≡ 4 → thing_in kept.new ≡ thing_in kept.old }
 {
@@ -138,6 +163,7 @@ pub extern "C" fn mesh_page_finish(kept: &mut MeshPageKept) -> u32
     }
     match &mut kept.held.as_mut().thing {
         Thing::Delaunay(points) => changing::finish(points),
+        Thing::Constrained(points) => among::finish(points),
         Thing::Nothing => NOT_KEPT,
     }
 }
@@ -145,7 +171,8 @@ pub extern "C" fn mesh_page_finish(kept: &mut MeshPageKept) -> u32
 /// Puts the corners of each triangle into the buffer, counterclockwise, by their vertices.
 ///
 /// As many as fit are put there, from the front, and what lies behind them stays; `needed` is how many
-/// there are. If the triangulation is whole, they are a Delaunay triangulation of its points.
+/// there are. If the triangulation is whole, they are a Delaunay triangulation of its points, or one
+/// that is Delaunay but for the constraints.
 /// Returns 0 if all are there, and 1 if the buffer was short; 2 if there is no memory, and 4 if no
 /// triangulation is kept: then the buffer stays, and `needed` is 0.
 #[unsafe(no_mangle)]
@@ -154,12 +181,12 @@ pub extern "C" fn mesh_page_list_triangles(
     triangles: &mut [Triangle],
     needed: &mut u64,
 ) -> u32
-    ensures triangles { result ≤ 1 → IsSo (λ t. IsPut (triangles_of t) triangles.old triangles.new needed.new) (delaunay_in kept.old) }
-    ensures delaunay { result ≤ 1 → IsSo (λ t. IsWhole t → ListsDelaunayTriangles t) (delaunay_in kept.old) }
+    ensures triangles { result ≤ 1 → PutsTriangles triangles.old triangles.new needed.new (thing_in kept.old) }
+    ensures delaunay { result ≤ 1 → HasTriangulation (thing_in kept.old) }
     ensures done { result ≡ 0 → needed.new ≤ length triangles.old }
     ensures short { result ≡ 1 → length triangles.old < needed.new }
     ensures refused { 2 ≤ result → (triangles.new ≡ triangles.old) × (needed.new ≡ 0) }
-    ensures none { (result ≡ 4) ↔ (delaunay_in kept.old ≡ None) }
+    ensures none { (result ≡ 4) ↔ HasNone (thing_in kept.old) }
     ensures status { (result ≤ 2) ⊎ (result ≡ 4) }
     ensures same { thing_in kept.new ≡ thing_in kept.old }
 {
@@ -171,11 +198,13 @@ pub extern "C" fn mesh_page_list_triangles(
     let heap = desk.heap;
     match &desk.thing {
         Thing::Delaunay(points) => listing::list_triangles(heap, points, triangles, needed),
+        Thing::Constrained(points) => lists_among::list_triangles(heap, points, triangles, needed),
         Thing::Nothing => NOT_KEPT,
     }
 }
 
-/// Finds a vertex that no other one is nearer to a point than, or 2^32 - 1 if there is no vertex.
+/// Finds a vertex that no other one is nearer to a point than, or 2^32 - 1 if there is no vertex. With
+/// constraints it looks at each vertex.
 ///
 /// Returns 0; 3 if a coordinate is out of range, 5 if the triangulation isn't whole, and 4 if none is
 /// kept.
@@ -185,10 +214,10 @@ pub extern "C" fn mesh_page_nearest(
     point: MeshPagePoint,
     vertex: &mut u32,
 ) -> u32
-    ensures done { result ≡ 0 → IsSo (IsNearestTo point vertex.new) (delaunay_in kept.old) }
-    ensures none { (result ≡ 4) ↔ (delaunay_in kept.old ≡ None) }
+    ensures done { result ≡ 0 → TellsNearest point vertex.new (thing_in kept.old) }
+    ensures none { (result ≡ 4) ↔ HasNone (thing_in kept.old) }
     ensures out_of_range { result ≡ 3 → IsFar point }
-    ensures unfinished { result ≡ 5 → IsSo (λ t. ¬ IsWhole t) (delaunay_in kept.old) }
+    ensures unfinished { result ≡ 5 → IsUnfinished (thing_in kept.old) }
     ensures status { (result ≡ 0) ⊎ ((3 ≤ result) × (result ≤ 5)) }
     ensures untold { result ≢ 0 → vertex.new ≡ vertex.old }
     ensures same { thing_in kept.new ≡ thing_in kept.old }
@@ -198,6 +227,7 @@ pub extern "C" fn mesh_page_nearest(
     }
     match &kept.held.as_mut().thing {
         Thing::Delaunay(points) => listing::nearest(points, point, vertex),
+        Thing::Constrained(points) => lists_among::nearest(points, point, vertex),
         Thing::Nothing => NOT_KEPT,
     }
 }

@@ -1,10 +1,14 @@
 //! What is kept across calls, and the heap that it is in.
 
+use dcel_constrained::ConstrainedTriangulation;
 use dcel_delaunay::Triangulation;
 use lent_heap::Heap;
 
 /// A Delaunay triangulation in memory of the host.
 pub type Points = Triangulation<&'static Heap>;
+
+/// A constrained Delaunay triangulation in memory of the host.
+pub type Constrained = ConstrainedTriangulation<&'static Heap>;
 
 /// What is kept.
 #[derive(Drop)]
@@ -13,6 +17,8 @@ pub enum Thing {
     Nothing,
     /// A Delaunay triangulation.
     Delaunay(Points),
+    /// A constrained Delaunay triangulation.
+    Constrained(Constrained),
 }
 
 /// What is kept, and the heap that it is in.

@@ -1,10 +1,12 @@
 //! What exports return. The same names stand in the header.
 
 ghost use Rattle.std.specs.Prelude.{◌≡◌};
-ghost use Rattle.mesh_page.specs.Statuses.{insertion_status, removal_status};
+ghost use Rattle.mesh_page.specs.Statuses.{constraint_status, insertion_status, removal_status};
 
+use dcel_constrained::ConstraintError;
 use dcel_delaunay::{InsertionError, RemovalError};
 pub(crate) use dcel_exports::status::{DONE, NO_MEMORY, SHORT};
+use lent_heap::Heap;
 
 /// A coordinate is below -2^53 or above 2^53.
 pub(crate) const OUT_OF_RANGE: u32 = 3;
@@ -20,6 +22,9 @@ pub(crate) const NO_SUCH_VERTEX: u32 = 6;
 
 /// There are no numbers for so many elements.
 pub(crate) const NO_ROOM: u32 = 7;
+
+/// A segment would cross a constraint.
+pub(crate) const CROSSES: u32 = 8;
 
 /// Returns the status of an insertion that failed.
 pub(crate) fn status_of_insertion(error: InsertionError) -> u32
@@ -42,5 +47,16 @@ pub(crate) fn status_of_removal(error: &RemovalError) -> u32
         RemovalError::TooManyPoints => NO_ROOM,
         RemovalError::OutOfMemory => NO_MEMORY,
         RemovalError::Unfinished(_) => UNFINISHED,
+    }
+}
+
+/// Returns the status of a segment that was not made one of constraints.
+pub(crate) fn status_of_constraint(error: &ConstraintError<&'static Heap>) -> u32
+    ensures { result ≡ constraint_status error.now }
+{
+    match error {
+        ConstraintError::NoVertex => NO_SUCH_VERTEX,
+        ConstraintError::Blocked(_) => CROSSES,
+        ConstraintError::OutOfMemory => NO_MEMORY,
     }
 }

@@ -27,7 +27,11 @@ PAGE = Library("bindings/c/mesh_page.h", "bindings/c/page.c", ("mesh_page",))
 LIBRARIES = (DCEL, PAGE)
 # Structs that exports take from crates below, with the crate of each and its name in C.
 FROM_BELOW = {
-    "mesh_page": {"Memory": ("lent_heap", "mesh_page_memory"), "Triangle": ("dcel_delaunay", "mesh_page_triangle")},
+    "mesh_page": {
+        "Memory": ("lent_heap", "mesh_page_memory"),
+        "Triangle": ("dcel_delaunay", "mesh_page_triangle"),
+        "Ends": ("dcel_delaunay", "mesh_page_ends"),
+    },
     "delaunay_c": {
         "DcelTriangulation": ("dcel_triangulations", "dcel_triangulation"),
         "DcelConstrained": ("dcel_triangulations", "dcel_constrained"),

@@ -16,7 +16,8 @@ is only tested. `mesh.d.ts` has the types; `mesh.html` is a page that edits and 
 {example}```
 
 `new Delaunay(coords)` has `triangles`, `halfedges` and `hull` as typed arrays, under delaunator's names. It is kept: points are inserted,
-moved and removed, `nearest(x, y)` finds one, and `free()` gives its memory back. The other calls keep nothing.
+moved and removed, `nearest(x, y)` finds one, and `free()` gives its memory back. `new ConstrainedDelaunay(coords, edges)` is one with edges that
+stay: `constraints`, `addConstraint(a, b)`, `removeConstraint(a, b)`. The other calls keep nothing.
 
 The engine must support WebAssembly memories with 64-bit addresses, or a call throws an error that says so. Node does from 24 on, and Node 20
 with `--experimental-wasm-memory64`; Chrome, Chromium and Edge do from 133 on, Firefox from 134 on, and Safari, as far as known, doesn't.

@@ -1,6 +1,6 @@
 // Triangulations as arrays: their triangles, the sides across and the hull, by definitions that share nothing with page/mesh.js.
 
-import { delaunayFault } from './delaunay.mjs';
+import { areaFault, delaunayFault } from './delaunay.mjs';
 
 const KINDS = { Array, Float64Array, Float32Array, Int32Array, Int16Array };
 const WRONG = [[NaN, 0], [0.5, 0], [0, Infinity], [2 ** 53 + 2, 0], [0, -(2 ** 53) - 2], [1, , 2, 3], [1, '2'], [1, null], [2n ** 53n + 1n, 0n], [1, 2, 3]];
@@ -45,15 +45,24 @@ function hullFault(points, hull) {
   return sum > 0 ? '' : 'it goes the other way round';
 }
 
-/** What is wrong with the arrays of a triangulation of these points. */
-export function fault(points, { triangles, halfedges, hull }) {
+const cornersOf = (points, triangles) => Array.from({ length: triangles.length / 3 }, (_, at) => [0, 1, 2].map(corner => points[triangles[3 * at + corner]]));
+
+/** What is wrong with the arrays of a Delaunay triangulation of these points. */
+export function fault(points, arrays) {
+  return structureFault(points, arrays) || delaunayFault(points, cornersOf(points, arrays.triangles));
+}
+
+/** What is wrong with the arrays of a triangulation of these points, Delaunay or not. */
+export function structureFault(points, { triangles, halfedges, hull }) {
   if (!(triangles instanceof Uint32Array && halfedges instanceof Int32Array && hull instanceof Uint32Array)) return 'an array has another type';
-  const corners = Array.from({ length: triangles.length / 3 }, (_, at) => [0, 1, 2].map(corner => points[triangles[3 * at + corner]]));
+  if (Array.from(triangles).some(number => !points[number])) return 'a corner is no point';
+  const corners = cornersOf(points, triangles);
   if (corners.some(([a, b, c]) => turn(a, b, c) <= 0)) return 'a triangle goes clockwise';
   const first = Array.from(triangles).find(number => points.findIndex(point => String(point) === String(points[number])) !== number);
   if (first !== undefined) return `${first} stands for an equal point that comes before it`;
   if (!triangles.length && hull.length) return 'a hull without triangles';
-  return delaunayFault(points, corners) || acrossFault(triangles, halfedges) || (triangles.length ? hullFault(points, Array.from(hull)) : '');
+  const sum = corners.reduce((all, [a, b, c]) => all + turn(a, b, c), 0);
+  return areaFault(points, sum) || acrossFault(triangles, halfedges) || (triangles.length ? hullFault(points, Array.from(hull)) : '');
 }
 
 /** Adds to the faults, and returns how many triangulations were looked at. */

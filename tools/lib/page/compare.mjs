@@ -5,12 +5,13 @@ import { resolve } from 'node:path';
 import { pathToFileURL } from 'node:url';
 import { arrayFaults } from './arrays.mjs';
 import { bufferFaults } from './buffers.mjs';
+import { constrainingFaults } from './constraining.mjs';
 import { keepingFaults } from './keeping.mjs';
 
 const ROOT = resolve(new URL('../../..', import.meta.url).pathname);
 const folder = resolve(process.argv[2]);
 const address = pathToFileURL(`${folder}/mesh.js`);
-const { replies, picture, triangulate, Delaunay } = await import(address);
+const { replies, picture, triangulate, Delaunay, ConstrainedDelaunay } = await import(address);
 
 const faults = [], counts = { talks: 0, lines: 0, 'talks with a limit left out': 0, pictures: 0, triangulations: 0, 'large answers': 0, refusals: 0 };
 const read = file => readFileSync(`${ROOT}/${file}`, 'utf8');
@@ -87,7 +88,7 @@ function compareRanges() {
 async function compareLacking() {
   const lacking = await import(`${address}?lacking`), { validate } = WebAssembly;
   WebAssembly.validate = () => false;
-  for (const call of [() => lacking.replies(''), () => lacking.picture(''), () => lacking.triangulate([]), () => new lacking.Delaunay([])]) {
+  for (const call of [() => lacking.replies(''), () => lacking.picture(''), () => lacking.triangulate([]), () => new lacking.Delaunay([]), () => new lacking.ConstrainedDelaunay([])]) {
     try {
       faults.push(`${call} needs no 64-bit memory: ${call()}`);
     } catch (error) {
@@ -108,7 +109,7 @@ compareLarge();
 compareRanges();
 const arrays = arrayFaults(Delaunay, faults);
 const calls = bufferFaults(readFileSync(`${folder}/mesh.wasm`), faults);
-const kept = keepingFaults(Delaunay, faults);
+const kept = { ...keepingFaults(Delaunay, faults), ...constrainingFaults(ConstrainedDelaunay, faults) };
 const all = { ...counts, 'triangulations as arrays': arrays, ...kept, 'calls with a short buffer or little memory': calls };
 for (const [name, count] of Object.entries(all)) if (!count) faults.push(`there were no ${name} to try`);
 const told = Object.entries(all).map(([name, count]) => `${count} ${name}`);

@@ -6,7 +6,7 @@ const [X, Y] = [0, 1];
 const area = (a, b, c) => (b[X] - a[X]) * (c[Y] - a[Y]) - (b[Y] - a[Y]) * (c[X] - a[X]);
 
 /** Positive if a point lies inside the circle through the corners of a triangle whose area is positive. */
-function inCircle(corners, point) {
+export function inCircle(corners, point) {
   const [[ax, ay], [bx, by], [cx, cy]] = corners.map(([x, y]) => [x - point[X], y - point[Y]]);
   const square = (x, y) => x * x + y * y;
   return square(ax, ay) * (bx * cy - by * cx) - square(bx, by) * (ax * cy - ay * cx) + square(cx, cy) * (ax * by - ay * bx);
@@ -33,5 +33,10 @@ export function delaunayFault(points, triangles) {
     const inside = points.find(point => area(...round) === 0 || inCircle(round, point) > 0);
     if (inside) return `${inside} lies inside the circle of ${corners.join(' ')}`;
   }
+  return areaFault(points, sum);
+}
+
+/** What is wrong with the sum of twice the areas of triangles that are to cover the hull of points. */
+export function areaFault(points, sum) {
   return sum === hullArea(points) ? '' : `the areas are ${sum}, and the hull's is ${hullArea(points)}`;
 }

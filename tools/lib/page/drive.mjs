@@ -140,6 +140,7 @@ async function clearing() {
   await expectDelaunay('the first points', 8);
   await click('#none');
   await expectValue('no points', 'document.querySelectorAll("#points circle").length', 0);
+  await expectValue('that nothing is there to clear or to remove', 'document.getElementById("none").disabled && document.getElementById("remove").disabled', true);
   await browser.pressWithControl('z');
   await expectDelaunay('Clear of points undone by Ctrl+Z', 8);
   await click('#none');
@@ -321,7 +322,7 @@ async function elsewhere() {
   }
   await expectText('ten vertices', '#counts', 'vertices 10 edges 19 faces 12');
   await expectValue('ten vertices drawn', 'document.getElementById("picture").ariaBusy', 'false');
-  await expectValue('numbers that can be read on a phone', `(({ count, seen, least }) => seen === count && least >= 8)(${NUMBERS})`, true);
+  await expectValue('numbers that can be read on a phone', `(({ count, seen, least }) => seen === count && least >= 10)(${NUMBERS})`, true);
   await expectValue('numbers that cover one another on a phone', COVERED, '');
   await expectValue('the line to type in', '(({ top, bottom }) => top > 0 && bottom <= innerHeight)(document.getElementById("box").getBoundingClientRect())', true);
   await expectValue('a picture that fills its box', `((host, { width, height }) => width > 0.97 * host.clientWidth && height > 0.97 * host.clientHeight)(
@@ -329,6 +330,9 @@ async function elsewhere() {
   await expectText('what is said of taps', '#how', 'Tap a half edge, vertex or face to see what is around it.');
   await browser.tap(await vertexPlace(8));
   await expectText('what a tap on a vertex tells', '#steps', '31 33 35');
+  await browser.tap(await evaluate(`(({ x, y, width, height }) => [x + width / 2, y + height / 2])([...document.querySelectorAll('#picture .face')]
+    .find(label => label.textContent === 'F11').getBoundingClientRect())`));
+  await expectText('what a tap on the number of a narrow face tells', '#steps', '7 36 9');
   await phonePoints();
   await browser.runFirst('WebAssembly.Module = class { constructor() { throw new WebAssembly.CompileError("no 64-bit memory"); } }');
   await browser.open(address);

@@ -4,8 +4,8 @@ A call has a row, with the first sentence of its comment. The calls of a type in
 defines, share a row. Laws are left out.
 
 - asks: for a call with a `requires`, the public tests whose comments name the call ("[`flip_cw`] asks for this"), and `has_room` where the
-  call's own comment names it. Without such a test, the sentence of its comment that begins with "Asks" or "Requires", up to a colon. Without
-  that, its clauses.
+  call's own comment names it or `has_room_for`. Without such a test, the sentence of its comment that begins with "Asks" or "Requires", up to
+  a colon. Without that, its clauses.
 - memory: "yes" if the call or its impl has an `Allocator`, and the result type, or a type that is part of it, is `AllocError` or `NoMemory`,
   or an enum with a variant `OutOfMemory`.
 """
@@ -112,7 +112,7 @@ class Calls:
             return ""
         said = [found[1] for it in sentences(call.doc) if (found := ASKED.fullmatch(it))]
         if call in self.tests:
-            room = ["`has_room`"] if any("`has_room`" in it for it in said) else []
+            room = ["`has_room`"] if any(re.search(r"`has_room(_for)?`", it) for it in said) else []
             return ", ".join([*(f"`{it.name}`" for it in self.tests[call]), *room])
         clauses = [f"`{flat(it.text)}`" for it in call.clauses if it.kind == "requires"]
         return "; ".join(map(without_links, said or clauses))

@@ -263,6 +263,9 @@ class Parser:
             kind = "variant" if item.kind == "enum" else "kept" if found[1] else "field"
             public = kind == "variant" or self.text.startswith("pub ", at)
             text = self.text[found.end() : stop].lstrip(": ")
+            if kind == "kept" and text.startswith("{"):
+                inner = self.blank.index("{", found.end())
+                text = self.text[inner + 1 : closing(self.blank, inner)].strip()
             item.inside[found[2]] = Item(kind, found[2], self.home, self.line(at), public, doc, text, item)
             at, doc = self.comments(stop, end)
 

@@ -50,12 +50,8 @@ pub(crate) fn take_out<UE: Drop, A: Allocator, L: Allocator, B: Allocator>(
 }
 
 /// Drops edges from a list, from a place on, that it has before too.
-pub(crate) fn drop_repeated<UE, A: Allocator, L: Allocator>(
-    dcel: &EdgeMesh<UE, A>,
-    due: &mut Due<L>,
-    place: usize,
-)
-    ensures { (u : ℕ) → edge_is_live dcel.now.shape u ≡ true → 0 < count_of u due.old.items → 0 < count_of u due.new.items }
+pub(crate) fn drop_repeated<L: Allocator>(due: &mut Due<L>, place: usize)
+    ensures { (u : ℕ) → 0 < count_of u due.old.items → 0 < count_of u due.new.items }
 {
     let mut at = place;
     while at < due.len() {
@@ -94,10 +90,36 @@ pub(crate) fn drop_given_up<UE, A: Allocator, L: Allocator>(
     requires { (u : ℕ) → list_any (λ e. e == u) given_up.now ≡ true → edge_is_live dcel.now.shape u ≡ false }
     ensures { (u : ℕ) → edge_is_live dcel.now.shape u ≡ true → 0 < count_of u due.old.items → 0 < count_of u due.new.items }
 {
+    if given_up.len() > FEW {
+        drop_dead(dcel, due);
+    } else {
+        drop_each(due, given_up);
+    }
+}
+
+/// Drops edges from a list that aren't live.
+fn drop_dead<UE, A: Allocator, L: Allocator>(dcel: &EdgeMesh<UE, A>, due: &mut Due<L>)
+    ensures { (u : ℕ) → edge_is_live dcel.now.shape u ≡ true → 0 < count_of u due.old.items → 0 < count_of u due.new.items }
+{
     let mut at = 0;
     while at < due.len() {
         let edge = due[at];
-        if is_given_up(dcel, given_up, edge) {
+        if dcel.is_live_edge(edge) {
+            at += 1;
+        } else {
+            let _edge = due.swap_remove(at);
+        }
+    }
+}
+
+/// Drops edges from a list, those of the other list.
+pub(crate) fn drop_each<L: Allocator>(due: &mut Due<L>, gone: &[FixedUndirectedEdgeHandle])
+    ensures { (u : ℕ) → list_any (λ e. e == u) gone.now ≡ false → 0 < count_of u due.old.items → 0 < count_of u due.new.items }
+{
+    let mut at = 0;
+    while at < due.len() {
+        let edge = due[at];
+        if gone.contains(&edge) {
             let _edge = due.swap_remove(at);
         } else {
             at += 1;
@@ -105,23 +127,12 @@ pub(crate) fn drop_given_up<UE, A: Allocator, L: Allocator>(
     }
 }
 
-/// Returns whether an edge is one of those that are given up.
-fn is_given_up<UE, A: Allocator>(
-    dcel: &EdgeMesh<UE, A>,
-    given_up: &[FixedUndirectedEdgeHandle],
-    edge: FixedUndirectedEdgeHandle,
-) -> bool
-    requires { (u : ℕ) → list_any (λ e. e == u) given_up.now ≡ true → edge_is_live dcel.now.shape u ≡ false }
-    ensures { IsTrue result → edge_is_live dcel.now.shape edge ≡ false }
-{
-    if given_up.len() > FEW {
-        return !dcel.is_live_edge(edge);
-    }
-    given_up.contains(&edge)
-}
-
 /// Gives each edge of a list the number that it has once these edges are taken out, from the last on.
-fn renumber<L: Allocator>(due: &mut Due<L>, taken_out: &[FixedUndirectedEdgeHandle], count: usize)
+pub(crate) fn renumber<L: Allocator>(
+    due: &mut Due<L>,
+    taken_out: &[FixedUndirectedEdgeHandle],
+    count: usize,
+)
     requires { length taken_out.now ≤ count }
     ensures { due.new.items ≡ map (new_number count (reverse taken_out.now)) due.old.items }
 {

@@ -1,6 +1,6 @@
 //! A vertex inside of triangles given up, and the hole filled.
 
-ghost use Rattle.std.specs.Prelude.{◌≡◌, ◌↔◌, ◌<◌, ◌≤◌, ◌+◌, ◌++◌, IfErr, IfOk, IsTrue, vec_capacity, vec_len};
+ghost use Rattle.std.specs.Prelude.{◌≡◌, ◌↔◌, ◌<◌, ◌≤◌, ◌+◌, ◌++◌, IfErr, IfOk, IsTrue, length, vec_capacity, vec_len};
 ghost use Rattle.dcel_maps.specs.Conditions.{HasRoom, IsTriangle};
 ghost use Rattle.dcel_maps.specs.Shapes.{IsLive};
 ghost use Rattle.dcel_plane.specs.Edges.{edges_inserted};
@@ -8,7 +8,7 @@ ghost use Rattle.dcel_plane.specs.Plane.{point_at};
 ghost use Rattle.dcel_plane.specs.removal.Wheels.{MakesTwo};
 ghost use Rattle.dcel_planar.specs.Growing.{IsTriangleMesh};
 ghost use Rattle.spade_dcel.specs.Handles.{mesh_behind, number_of};
-ghost use Rattle.dcel_delaunay.specs.Removing.{BeginsBorder, IsFilled, IsGivenUp, IsThinnedOut};
+ghost use Rattle.dcel_delaunay.specs.Removing.{BeginsBorder, IsBorder, IsFilled, IsGivenUp, IsThinnedOut};
 
 use crate::free::FreeByDefault;
 use crate::remove::Due;
@@ -19,31 +19,40 @@ use spade_dcel::laws::every_mesh;
 use spade_dcel::operations::{IsolateVertexResult, isolate_vertex_and_fill_hole};
 use std::alloc::{AllocError, Allocator};
 
-/// Gives up a vertex inside of triangles, none of whose edges can be flipped any more, fills the
-/// hole with one triangle or two, and lists their edges.
+/// The border loop of a vertex inside of triangles, none of whose edges can be flipped any more, from
+/// where the triangles that fill it go round counterclockwise.
+#[derive(Clone, Copy)]
+pub(crate) enum Border {
+    /// Of three edges.
+    Triangle([FixedDirectedEdgeHandle; 3]),
+    /// Of four.
+    Square([FixedDirectedEdgeHandle; 4]),
+}
+
+/// Gives up a vertex with such a border loop of four edges, fills the hole with two triangles, and
+/// lists their edges.
 ///
 /// If memory runs out, nothing is changed.
 pub(crate) fn fill<UE: FreeByDefault, A: Allocator + Clone, L: Allocator>(
     dcel: &mut EdgeMesh<UE, A>,
     due: &mut Due<L>,
+    border: &[FixedDirectedEdgeHandle],
     vertex: FixedVertexHandle,
 ) -> Result<IsolateVertexResult<A>, AllocError>
     requires sound { IsTriangleMesh dcel.old }
     requires thin { IsThinnedOut dcel.old vertex }
+    requires border { IsFilled dcel.old vertex border.now }
+    requires four { length border.now ≡ 4 }
     requires room { HasRoom dcel.old.shape 0 1 2 }
     ensures given_up { IfOk result (λ opened. IsGivenUp UE.is_constraint dcel.old dcel.new vertex due.old.items due.new.items opened) }
     ensures refused { IfErr result (λ _. (dcel.new ≡ dcel.old) × (due.new.items ≡ due.old.items)) }
 {
     every_mesh(dcel);
-    let border = border_of(dcel, vertex)?;
-    let two = border.len() == 4;
+    let border = Vec::from_slice(dcel.allocator().clone()?, border)?;
     due.reserve(6)?;
     let first = FixedFaceHandle::new(dcel.num_faces());
     let opened = isolate_vertex_and_fill_hole(dcel, border, vertex)?;
     list_sides(dcel, due, first);
-    if !two {
-        return Ok(opened);
-    }
     list_sides(dcel, due, FixedFaceHandle::new(first.index() + 1));
     Ok(opened)
 }
@@ -67,14 +76,13 @@ fn list_sides<UE, A: Allocator, L: Allocator>(
     due.push_reserved(sides[2]);
 }
 
-/// Returns the border loop of the vertex, from where the triangles that fill it go round
-/// counterclockwise.
-fn border_of<UE, A: Allocator + Clone>(
+/// Returns the border loop of a vertex.
+pub(crate) fn border_of<UE, A: Allocator>(
     dcel: &EdgeMesh<UE, A>,
     vertex: FixedVertexHandle,
-) -> Result<Vec<FixedDirectedEdgeHandle, A>, AllocError>
+) -> Border
     requires { IsThinnedOut dcel.now vertex }
-    ensures { IfOk result (λ border. IsFilled dcel.now vertex border.items) }
+    ensures { IsBorder dcel.now vertex result }
 {
     every_mesh(dcel);
     let begin = beginning(dcel, vertex);
@@ -82,20 +90,15 @@ fn border_of<UE, A: Allocator + Clone>(
     let second = first.ccw();
     let third = second.ccw();
     let fourth = third.ccw();
-    let alloc = dcel.allocator().clone()?;
     if fourth.fix() == begin {
-        let three = [third.next().fix(), second.next().fix(), first.next().fix()];
-        let border = Vec::from_slice(alloc, &three)?;
-        return Ok(border);
+        return Border::Triangle([third.next().fix(), second.next().fix(), first.next().fix()]);
     }
-    let four = [
+    Border::Square([
         fourth.next().fix(),
         third.next().fix(),
         second.next().fix(),
         first.next().fix(),
-    ];
-    let border = Vec::from_slice(alloc, &four)?;
-    Ok(border)
+    ])
 }
 
 /// Returns the out edge of the vertex at which the border loop begins: of three edges any, of four one

@@ -104,7 +104,7 @@ impl Label {
 }
 
 /// Returns how many letters the number of a face has, with the F before it.
-fn letters_of(number: usize) -> usize {
+pub(crate) fn letters_of(number: usize) -> usize {
     let mut letters = 2usize;
     let mut rest = number / 10;
     for _ in 0..20 {

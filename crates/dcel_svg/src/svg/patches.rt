@@ -8,12 +8,8 @@ use dcel_drawn::{Patch, Picture, State};
 use std::alloc::Allocator;
 use std::io::{self, Write};
 
-/// Writes the outer face, which is the whole page, and over it the areas of inner faces.
-pub(crate) fn write_live_patches<B: Allocator + Copy>(
-    picture: &Picture<B>,
-    frame: &Frame,
-    out: &mut impl Write,
-) -> io::Result<()> {
+/// Writes the whole page as an area.
+pub(crate) fn write_page(frame: &Frame, out: &mut impl Write) -> io::Result<()> {
     let (corner, size) = (frame.corner(), frame.size());
     writeln!(
         out,
@@ -22,12 +18,22 @@ pub(crate) fn write_live_patches<B: Allocator + Copy>(
         Tenths(-corner.y),
         Tenths(size.x),
         Tenths(size.y)
-    )?;
+    )
+}
+
+/// Writes the outer face, which is the whole page, and over it the areas of inner faces.
+pub(crate) fn write_live_patches<B: Allocator + Copy>(
+    picture: &Picture<B>,
+    frame: &Frame,
+    out: &mut impl Write,
+) -> io::Result<()> {
+    write_page(frame, out)?;
     let colors = colors_of(picture)?;
     for (patch, color) in picture.patches.iter().zip(&colors).skip(1) {
         if patch.state == State::Live && !patch.outline.is_empty() {
             write!(out, "<path class=\"c{color}\" d=\"")?;
-            write_outline(patch, frame, out)?;
+            write_round(patch, frame, out)?;
+            writeln!(out, "z\"/>")?;
         }
     }
     Ok(())
@@ -42,14 +48,15 @@ pub(crate) fn write_given_up_patches<B: Allocator>(
     for patch in &picture.patches {
         if patch.state == State::GivenUp && !patch.outline.is_empty() {
             write!(out, "<path class=\"hatch\" d=\"")?;
-            write_outline(patch, frame, out)?;
+            write_round(patch, frame, out)?;
+            writeln!(out, "z\"/>")?;
         }
     }
     Ok(())
 }
 
-/// Writes the way round a face, and the end of its area.
-fn write_outline<B: Allocator>(
+/// Writes the way round a face.
+pub(crate) fn write_round<B: Allocator>(
     patch: &Patch<B>,
     frame: &Frame,
     out: &mut impl Write,
@@ -60,5 +67,5 @@ fn write_outline<B: Allocator>(
     for line in &patch.outline {
         write_way(frame.shown_line(*line), out)?;
     }
-    writeln!(out, "z\"/>")
+    Ok(())
 }

@@ -2,7 +2,6 @@
 
 use crate::frame::Frame;
 use crate::marks::Marks;
-use crate::svg::Style;
 use crate::svg::arrow::{Arrow, area_of};
 use crate::svg::numbers::{At, Tenths};
 use crate::svg::room::Room;
@@ -14,19 +13,11 @@ use std::io::{self, Write};
 pub(crate) fn write_edges<B: Allocator>(
     picture: &Picture<B>,
     frame: &Frame,
-    style: Style,
     out: &mut impl Write,
 ) -> io::Result<()> {
-    for (stroke, other) in picture
-        .strokes
-        .iter()
-        .zip(picture.strokes.iter().skip(1))
-        .step_by(2)
-    {
+    for stroke in picture.strokes.iter().step_by(2) {
         if let Some(line) = stroke.line() {
-            let is_border = stroke.face == Some(0) || other.face == Some(0);
             let class = match stroke.state {
-                State::Live if is_border && style == Style::Edges => "border",
                 State::Live => "edge",
                 State::GivenUp => "edge gone",
             };
@@ -38,7 +29,8 @@ pub(crate) fn write_edges<B: Allocator>(
     Ok(())
 }
 
-fn write_line(line: Line, out: &mut impl Write) -> io::Result<()> {
+/// Writes a line from its start to its end.
+pub(crate) fn write_line(line: Line, out: &mut impl Write) -> io::Result<()> {
     write!(out, "M{}", At(line.from))?;
     write_way(line, out)
 }

@@ -11,7 +11,7 @@ use dcel_bench::snapshots::snapshot_of;
 use dcel_bench::talks::{Talk, push_talk};
 use spade_dcel::handles::{FixedDirectedEdgeHandle, FixedVertexHandle};
 use spade_dcel::iterators::HullIterator;
-use spade_dcel::operations::{IsolateVertexResult, Room};
+use spade_dcel::operations::{IsolateVertexResult, Room, remove_from_triangle};
 use std::alloc::{AllocError, Allocator, Global};
 use std::test::Fail;
 
@@ -191,7 +191,7 @@ fn make_lists(alloc: Global) -> Result<Lists, AllocError> {
 }
 
 /// Returns the tests that are about lists and the whole mesh.
-fn tested_whole<A: Allocator>(dcel: &Mesh<A>, lists: &Lists) -> [bool; 11] {
+fn tested_whole<A: Allocator>(dcel: &Mesh<A>, lists: &Lists) -> [bool; 12] {
     let border = lists.border.as_slice();
     let edges = lists.opened.edges_to_remove.as_slice();
     let faces = lists.opened.faces_to_remove.as_slice();
@@ -201,6 +201,7 @@ fn tested_whole<A: Allocator>(dcel: &Mesh<A>, lists: &Lists) -> [bool; 11] {
         dcel.is_edge_strip(border),
         dcel.is_listed(&lists.opened),
         dcel.can_isolate_vertex_and_fill_hole(border, vertex(3)),
+        dcel.can_remove_from_triangle(border, vertex(3)),
         dcel.can_remesh_edge_ring(border, edges, faces),
         dcel.can_disconnect_edge_strip(border),
         dcel.has_room_for(Room::SPLIT_EDGE),
@@ -298,6 +299,39 @@ fn check_written(alloc: Global) -> Result<(), Fail> {
 #[test]
 fn data_are_written_without_memory(rt: HostRuntime) -> Result<(), Fail> {
     check_written(rt.alloc())
+}
+
+/// Gives a mesh a place for one more face.
+fn reserve_face(dcel: &mut Watched) -> Result<(), Fail> {
+    require!(dcel.has_room(0, 0, 1));
+    Ok(dcel.reserve_capacity(0, 0, 1)?)
+}
+
+/// Removes vertex 3 from the triangle. Returns whether there was memory.
+fn remove_from_cut<A: Allocator>(dcel: &mut Mesh<A>, lists: &Lists) -> Result<bool, Fail> {
+    let border = lists.border.as_slice();
+    require!(
+        dcel.can_remove_from_triangle(border, vertex(3))
+            && dcel.has_room_for(Room::REMOVE_FROM_TRIANGLE)
+    );
+    Ok(remove_from_triangle(dcel, border, vertex(3)).is_ok())
+}
+
+fn check_removed(alloc: Global) -> Result<(), Fail> {
+    let memory = Refusing::new(alloc);
+    let lists = make_lists(alloc)?;
+    let mut dcel = made(&memory, CUT)?;
+    reserve_face(&mut dcel)?;
+    memory.refuse(Refusals::From(0));
+    let is_removed = remove_from_cut(&mut dcel, &lists)?;
+    same((is_removed, memory.requests()), (true, 0), "requests")
+}
+
+/// The mesh has a place for the face that fills the hole. Without one there is a request, which
+/// `dcel_sweep` refuses.
+#[test]
+fn a_vertex_is_removed_from_a_triangle_without_memory(rt: HostRuntime) -> Result<(), Fail> {
+    check_removed(rt.alloc())
 }
 
 /// Lines that have memory, and lines after them where there is none any more.

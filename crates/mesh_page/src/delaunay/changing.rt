@@ -2,7 +2,7 @@
 
 ghost use Rattle.std.specs.Prelude.{◌≡◌, ◌≢◌, ◌⊎◌, ◌≤◌, ◌<◌, length};
 ghost use Rattle.dcel_exports.specs.Answers.{filled};
-ghost use Rattle.mesh_page.specs.Changing.{FailsToInsertAllOf, FailsToInsertPoint, FailsToRemoveVertex, Finishes, InsertsAll, InsertsPoint, RemovesVertex, StaysUnfinished, moved_after, moved_told};
+ghost use Rattle.mesh_page.specs.Changing.{FailsAmong, FailsToInsertPoint, FailsToRemoveVertex, FinishesPoints, InsertsEach, InsertsPoint, LeavesPoints, RemovesVertex, moved_after, moved_told};
 ghost use Rattle.mesh_page.specs.Given.{HasFar, IsFar};
 
 use crate::desk::Points;
@@ -14,8 +14,8 @@ use spade_dcel::handles::FixedVertexHandle;
 
 /// Inserts a point, and reports its vertex.
 pub(crate) fn insert(points: &mut Points, given: MeshPagePoint, vertex: &mut u32) -> u32
-    ensures done { result ≡ 0 → InsertsPoint given vertex.new points.old points.new }
-    ensures fails { result ≢ 0 → result ≢ 3 → FailsToInsertPoint given result points.old points.new }
+    ensures done { result ≡ 0 → InsertsPoint given vertex.new points.old.planar points.new.planar }
+    ensures fails { result ≢ 0 → result ≢ 3 → FailsToInsertPoint given result points.old.planar points.new.planar }
     ensures out_of_range { result ≡ 3 → IsFar given }
     ensures same { result ≡ 3 → points.new ≡ points.old }
     ensures untold { result ≢ 0 → vertex.new ≡ vertex.old }
@@ -40,9 +40,10 @@ pub(crate) fn insert_all(
     given: &[MeshPagePoint],
     vertices: &mut [u32],
 ) -> u32
-    ensures done { result ≡ 0 → InsertsAll given.now vertices.old vertices.new points.old points.new }
+    ensures done { result ≡ 0 → InsertsEach given.now vertices.old vertices.new points.old.planar points.new.planar }
     ensures fits { result ≡ 0 → length given.now ≤ length vertices.old }
-    ensures fails { result ≢ 0 → result ≢ 1 → result ≢ 3 → FailsToInsertAllOf given.now result points.old points.new }
+    ensures fails { result ≢ 0 → result ≢ 1 → result ≢ 3 →
+        ((result ≡ 2) × (points.new ≡ points.old)) ⊎ FailsAmong given.now result points.old.planar points.new.planar }
     ensures short { result ≡ 1 → length vertices.old < length given.now }
     ensures out_of_range { result ≡ 3 → HasFar given.now }
     ensures same { (result ≡ 1) ⊎ (result ≡ 3) → points.new ≡ points.old }
@@ -67,7 +68,7 @@ pub(crate) fn insert_all(
 }
 
 /// Puts the numbers of vertices into the buffer, as many as fit.
-fn put_numbers(list: &[FixedVertexHandle], buffer: &mut [u32])
+pub(crate) fn put_numbers(list: &[FixedVertexHandle], buffer: &mut [u32])
     ensures { buffer.new ≡ filled list.now buffer.old }
 {
     let fitting = list.len().min(buffer.len());
@@ -80,8 +81,8 @@ fn put_numbers(list: &[FixedVertexHandle], buffer: &mut [u32])
 
 /// Removes a vertex, and reports which one moved.
 pub(crate) fn remove(points: &mut Points, vertex: u32, moved: &mut u64) -> u32
-    ensures done { result ≡ 0 → RemovesVertex vertex moved.new points.old points.new }
-    ensures fails { result ≢ 0 → FailsToRemoveVertex vertex result moved.old moved.new points.old points.new }
+    ensures done { result ≡ 0 → RemovesVertex vertex moved.new points.old.planar points.new.planar }
+    ensures fails { result ≢ 0 → FailsToRemoveVertex vertex result moved.old moved.new points.old.planar points.new.planar }
     ensures kept { result ≢ 4 }
 {
     let vertex = FixedVertexHandle::new(vertex as usize);
@@ -98,7 +99,7 @@ pub(crate) fn remove(points: &mut Points, vertex: u32, moved: &mut u64) -> u32
 }
 
 /// Returns the old number of the vertex that has the removed one's number now, or 2^64 - 1.
-fn tell(removed: &Removed) -> u64
+pub(crate) fn tell(removed: &Removed) -> u64
     ensures { result ≡ moved_told removed.now }
 {
     match removed.moved {
@@ -108,7 +109,7 @@ fn tell(removed: &Removed) -> u64
 }
 
 /// Returns what is reported if the vertex is gone all the same, and what was there before if it isn't.
-fn tell_after(error: &RemovalError, before: u64) -> u64
+pub(crate) fn tell_after(error: &RemovalError, before: u64) -> u64
     ensures { result ≡ moved_after error.now before }
 {
     match error {
@@ -119,8 +120,8 @@ fn tell_after(error: &RemovalError, before: u64) -> u64
 
 /// Does what was left undone for want of memory.
 pub(crate) fn finish(points: &mut Points) -> u32
-    ensures done { result ≡ 0 → Finishes points.old points.new }
-    ensures no_memory { result ≡ 2 → StaysUnfinished points.old points.new }
+    ensures done { result ≡ 0 → FinishesPoints points.old.planar points.new.planar }
+    ensures no_memory { result ≡ 2 → LeavesPoints points.old.planar points.new.planar }
     ensures status { (result ≡ 0) ⊎ (result ≡ 2) }
 {
     match points.finish() {

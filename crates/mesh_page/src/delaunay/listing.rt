@@ -1,6 +1,7 @@
 //! What a triangulation has, as lists in buffers, and where points are in it.
 
 ghost use Rattle.std.specs.Prelude.{◌≡◌, ◌≢◌, ◌⊎◌, ◌≤◌, ◌<◌, length};
+ghost use Rattle.dcel_delaunay.specs.Triangulated.{mesh_in};
 ghost use Rattle.mesh_page.specs.Given.{IsFar};
 ghost use Rattle.mesh_page.specs.Keeping.{IsWhole};
 ghost use Rattle.mesh_page.specs.Listing.{IsNearestTo, IsPut, ListsDelaunayTriangles, triangles_of, vertex_told};
@@ -21,7 +22,7 @@ pub(crate) fn list_triangles(
     triangles: &mut [Triangle],
     needed: &mut u64,
 ) -> u32
-    ensures triangles { result ≤ 1 → IsPut (triangles_of points.now) triangles.old triangles.new needed.new }
+    ensures triangles { result ≤ 1 → IsPut (triangles_of (mesh_in points.now)) triangles.old triangles.new needed.new }
     ensures delaunay { result ≤ 1 → IsWhole points.now → ListsDelaunayTriangles points.now }
     ensures done { result ≡ 0 → needed.new ≤ length triangles.old }
     ensures short { result ≡ 1 → length triangles.old < needed.new }
@@ -39,7 +40,7 @@ pub(crate) fn list_triangles(
 
 /// Finds a vertex that no other one is nearer to a point than, or 2^32 - 1 if there is none.
 pub(crate) fn nearest(points: &Points, given: MeshPagePoint, vertex: &mut u32) -> u32
-    ensures done { result ≡ 0 → IsNearestTo given vertex.new points.now }
+    ensures done { result ≡ 0 → IsNearestTo given vertex.new (mesh_in points.now) }
     ensures out_of_range { result ≡ 3 → IsFar given }
     ensures unfinished { result ≡ 5 → ¬ IsWhole points.now }
     ensures status { (result ≡ 0) ⊎ (result ≡ 3) ⊎ (result ≡ 5) }
@@ -56,7 +57,7 @@ pub(crate) fn nearest(points: &Points, given: MeshPagePoint, vertex: &mut u32) -
 }
 
 /// Returns the number of a vertex, or 2^32 - 1 if there is none.
-fn tell_vertex(vertex: Option<FixedVertexHandle>) -> u32
+pub(crate) fn tell_vertex(vertex: Option<FixedVertexHandle>) -> u32
     ensures { result ≡ vertex_told vertex }
 {
     match vertex {

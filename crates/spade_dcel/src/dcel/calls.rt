@@ -1,6 +1,6 @@
 //! For each operation with several conditions, a test of all of them but room.
 
-ghost use Rattle.std.specs.Prelude.{◌≡◌, ◌≢◌, ◌<◌, ◌↔◌, true, IsTrue};
+ghost use Rattle.std.specs.Prelude.{◌≡◌, ◌≢◌, ◌<◌, ◌↔◌, length, true, IsTrue};
 ghost use Rattle.dcel_fixed.specs.HalfEdges.{rev};
 ghost use Rattle.dcel_maps.specs.Borders.{IsBorderLoop};
 ghost use Rattle.dcel_maps.specs.Conditions.{IsBridge, IsLineEnd, IsTriangle, IsUnconnected};
@@ -184,6 +184,25 @@ impl<V, DE, UE, F, A: Allocator> Dcel<V, DE, UE, F, A> {
             return false;
         }
         self.is_border_loop(border_loop, vertex)
+    }
+
+    /// Returns whether a vertex can be removed from a triangle.
+    ///
+    /// [`remove_from_triangle`](crate::operations::remove_from_triangle) asks for this and for room:
+    /// no removal is open, and the list is the border loop of the vertex
+    /// ([`is_border_loop`](Self::is_border_loop)), with three half edges.
+    pub fn can_remove_from_triangle(
+        &self,
+        border_loop: &[FixedDirectedEdgeHandle],
+        vertex: FixedVertexHandle,
+    ) -> bool
+        ensures { let shape = self.now.shape in
+            IsTrue result ↔ ((shape.removal ≡ Closed) × IsBorderLoop shape border_loop.now vertex × (length border_loop.now ≡ 3)) }
+    {
+        if border_loop.len() != 3 {
+            return false;
+        }
+        self.can_isolate_vertex_and_fill_hole(border_loop, vertex)
     }
 
     /// Returns whether the elements inside a ring can be given up and the hole filled.

@@ -58,3 +58,17 @@ impl<V> RemovalResult<V> {
         }
     }
 }
+
+/// The result of removing a vertex from a triangle.
+#[derive(Drop)]
+pub struct TriangleRemovalResult<V> {
+    /// The datum of the vertex.
+    pub removed_vertex: V,
+
+    /// The old number of the vertex that got the freed number, if one did.
+    pub swapped_in_vertex: Option<FixedVertexHandle>,
+
+    /// The edges of the vertex, in ascending order. Each is taken out, the last one first, and the
+    /// last edge that is left gets its number.
+    pub removed_edges: [FixedUndirectedEdgeHandle; 3],
+}

@@ -86,6 +86,13 @@ impl Room {
         faces: 1,
     };
 
+    /// What [`remove_from_triangle`](super::remove_from_triangle) adds, before it takes out more.
+    pub const REMOVE_FROM_TRIANGLE: Room = Room {
+        vertices: 0,
+        undirected_edges: 0,
+        faces: 1,
+    };
+
     /// Returns what a call adds that fills a hole bounded by this many half edges.
     ///
     /// The calls are [`isolate_vertex_and_fill_hole`](super::isolate_vertex_and_fill_hole) and

@@ -15,16 +15,17 @@ function takeNames() {
 }
 
 /**
- * How well something fits the words that were typed: the lower, the better; null if it doesn't. Names come before sentences, in which types
- * come first; definitions, laws and signs after the rest.
+ * How well something fits the words that were typed: the lower, the better; null if it doesn't. Names come before sentences, but for those
+ * of types that begin with the words, or nearly; definitions, laws and signs come after calls and types.
  */
 function rank([name, kind, , sentence], words) {
   const path = name.toLowerCase(), last = path.split('::').pop(), typed = words.join('_'), said = sentence.toLowerCase();
-  const order = (['definition', 'law', 'sign'].includes(kind) ? 100 : 0) + Math.min(name.length, 99);
-  if (last === typed) return order;
+  const isOfContracts = ['definition', 'law', 'sign'].includes(kind), order = (isOfContracts ? 300 : 0) + Math.min(name.length, 99);
+  if (last === typed) return isOfContracts ? order - 200 : order;
   if (last.startsWith(typed)) return 200 + order;
+  if (kind === 'type' && said.slice(0, 30).includes(words.join(' '))) return 300 + order;
   if (words.every(it => path.includes(it))) return 400 + order;
-  if (words.every(it => path.includes(it) || said.includes(it))) return (kind === 'type' ? 450 : 600) + order;
+  if (words.every(it => path.includes(it) || said.includes(it))) return (kind === 'type' || words.includes(last) ? 450 : 600) + order;
   return null;
 }
 

@@ -23,9 +23,8 @@ returns-then-eq g c =
       c.directed_edge-first.ensures.number,
     ) refl in
     let same : c.fix.result ≡ h = grind (arith, nat_tests, c.eq.ensures, c.if-eq.true) in
-    let is : c.in_ok-border.border.items ≡ next_of s (ccw_of s (ccw_of s h)) ∷ next_of s (ccw_of s h) ∷ next_of s h ∷ [] =
+    let is : c.fix-then-eq.result ∷ c.fix-then-eq-2.result ∷ c.fix-then-eq-3.result ∷ [] ≡ next_of s (ccw_of s (ccw_of s h)) ∷ next_of s (ccw_of s h) ∷ next_of s h ∷ [] =
     rw (
-      c.in_ok-border.ensures.items,
       c.fix-then-eq.ensures.value,
       c.fix-then-eq-2.ensures.value,
       c.fix-then-eq-3.ensures.value,
@@ -39,7 +38,7 @@ returns-then-eq g c =
       c.directed_edge-first.ensures.mesh,
       c.directed_edge-first.ensures.number,
     ) refl in
-    three_filled m c.every_mesh.ensures c.args.vertex c.requires h c.beginning-begin.ensures (sym back ∙ same) c.in_ok-border.border.items is
+    (three_filled m c.every_mesh.ensures c.args.vertex c.requires h c.beginning-begin.ensures (sym back ∙ same) (c.fix-then-eq.result ∷ c.fix-then-eq-2.result ∷ c.fix-then-eq-3.result ∷ []) is, refl)
 
 pub returns : goal.returns
 returns g c =
@@ -57,9 +56,8 @@ returns g c =
       c.directed_edge-first.ensures.mesh,
       c.directed_edge-first.ensures.number,
     ) refl in
-    let is : c.in_ok-border-2.border.items ≡ next_of s (ccw_of s (ccw_of s (ccw_of s h))) ∷ next_of s (ccw_of s (ccw_of s h)) ∷ next_of s (ccw_of s h) ∷ next_of s h ∷ [] =
+    let is : c.fix-2.result ∷ c.fix-3.result ∷ c.fix-4.result ∷ c.fix-5.result ∷ [] ≡ next_of s (ccw_of s (ccw_of s (ccw_of s h))) ∷ next_of s (ccw_of s (ccw_of s h)) ∷ next_of s (ccw_of s h) ∷ next_of s h ∷ [] =
     rw (
-      c.in_ok-border-2.ensures.items,
       c.fix-2.ensures.value,
       c.fix-3.ensures.value,
       c.fix-4.ensures.value,
@@ -76,6 +74,8 @@ returns g c =
       c.ccw-second.ensures.number,
       c.directed_edge-first.ensures.mesh,
       c.directed_edge-first.ensures.number,
-    ) refl in
-    four_filled m c.every_mesh.ensures c.args.vertex c.requires h c.beginning-begin.ensures
-    (λ back. false≢true (sym c.if-eq.false ∙ c.eq.ensures ∙ eq-eqb c.fix.result h (on ∙ back))) c.in_ok-border-2.border.items is
+    ) refl in (
+      four_filled m c.every_mesh.ensures c.args.vertex c.requires h c.beginning-begin.ensures
+          (λ back. false≢true (sym c.if-eq.false ∙ c.eq.ensures ∙ eq-eqb c.fix.result h (on ∙ back))) (c.fix-2.result ∷ c.fix-3.result ∷ c.fix-4.result ∷ c.fix-5.result ∷ []) is,
+      refl,
+    )

@@ -20,7 +20,7 @@ pub drop_given_up-requires : goal.drop_given_up-requires
 drop_given_up-requires g c = rw c.deref.ensures.value (named_dead c.cut_off.new.dcel.shape _ _ c.in_ok-opened.ensures.given_up.named)
 
 pub take_out-requires-clause-given_up : goal.take_out-requires-clause-given_up
-take_out-requires-clause-given_up g c = ap cleaned c.in_ok-opened.ensures.given_up.removal
+take_out-requires-clause-given_up g c = ap cleaned c.in_ok-opened.ensures.given_up.emptied.removal
 
 pub returns-in_err-opened-clause-keeps : goal.returns-in_err-opened-clause-keeps
 returns-in_err-opened-clause-keeps g c =
@@ -39,29 +39,29 @@ pub returns-clause-sound : goal.returns-clause-sound
 returns-clause-sound g c =
     let mid = c.thin_out.new.dcel in
     let thinned = c.thin_out.ensures in
-    let given = given_fewer _ mid c.cut_off.new.dcel c.args.vertex c.thin_out.new.due.items c.cut_off.new.due.items c.drop_given_up.new.due.items _ c.in_ok-opened.ensures.given_up c.drop_given_up.ensures in
+    let given = given_fewer _ mid c.cut_off.new.dcel c.args.vertex c.thin_out.new.due.items c.cut_off.new.due.items c.drop_given_up.new.due.items c.in_ok-opened.ensures.given_up.emptied c.drop_given_up.ensures in
     let within = outside_below mid thinned.mesh c.args.vertex c.args.outside (thinned.outside c.args.outside c.requires.outside) in
     legal_trans _ c.args.dcel.now mid c.take_out.new.dcel c.args.due.now.items c.thin_out.new.due.items c.take_out.new.due.items thinned.sound
-    (taken_sound _ mid c.cut_off.new.dcel c.take_out.new.dcel c.args.vertex c.thin_out.new.due.items c.drop_given_up.new.due.items c.take_out.new.due.items _ given within
+    (taken_sound _ mid c.cut_off.new.dcel c.take_out.new.dcel c.args.vertex c.thin_out.new.due.items c.drop_given_up.new.due.items c.take_out.new.due.items given within
     (more_vertices mid thinned.mesh thinned.sound.triangulated thinned.hull) c.take_out.ensures.clean c.take_out.ensures.mesh c.take_out.ensures.edit c.take_out.ensures.due)
 
 pub returns-clause-hull : goal.returns-clause-hull
 returns-clause-hull g c =
     let mid = c.thin_out.new.dcel in
     let thinned = c.thin_out.ensures in
-    let given = given_fewer _ mid c.cut_off.new.dcel c.args.vertex c.thin_out.new.due.items c.cut_off.new.due.items c.drop_given_up.new.due.items _ c.in_ok-opened.ensures.given_up c.drop_given_up.ensures in
+    let given = given_fewer _ mid c.cut_off.new.dcel c.args.vertex c.thin_out.new.due.items c.cut_off.new.due.items c.drop_given_up.new.due.items c.in_ok-opened.ensures.given_up.emptied c.drop_given_up.ensures in
     let within = outside_below mid thinned.mesh c.args.vertex c.args.outside (thinned.outside c.args.outside c.requires.outside) in
-    taken_hull _ mid c.cut_off.new.dcel c.take_out.new.dcel c.args.vertex c.thin_out.new.due.items c.drop_given_up.new.due.items c.take_out.new.due.items _ given within
+    taken_hull _ mid c.cut_off.new.dcel c.take_out.new.dcel c.args.vertex c.thin_out.new.due.items c.drop_given_up.new.due.items c.take_out.new.due.items given within
     (more_vertices mid thinned.mesh thinned.sound.triangulated thinned.hull) c.take_out.ensures.clean c.take_out.ensures.mesh c.take_out.ensures.edit c.take_out.ensures.due
 
 pub returns-clause-loses : goal.returns-clause-loses
 returns-clause-loses g c =
     let mid = c.thin_out.new.dcel in
     let thinned = c.thin_out.ensures in
-    let given = given_fewer _ mid c.cut_off.new.dcel c.args.vertex c.thin_out.new.due.items c.cut_off.new.due.items c.drop_given_up.new.due.items _ c.in_ok-opened.ensures.given_up c.drop_given_up.ensures in
+    let given = given_fewer _ mid c.cut_off.new.dcel c.args.vertex c.thin_out.new.due.items c.cut_off.new.due.items c.drop_given_up.new.due.items c.in_ok-opened.ensures.given_up.emptied c.drop_given_up.ensures in
     let within = outside_below mid thinned.mesh c.args.vertex c.args.outside (thinned.outside c.args.outside c.requires.outside) in
     lost_before c.args.dcel.now mid c.take_out.new.dcel c.args.vertex c.take_out.result thinned.keeps.points thinned.keeps.vertices
-    (taken_loses _ mid c.cut_off.new.dcel c.take_out.new.dcel c.args.vertex c.thin_out.new.due.items c.drop_given_up.new.due.items c.take_out.new.due.items _ given within
+    (taken_loses _ mid c.cut_off.new.dcel c.take_out.new.dcel c.args.vertex c.thin_out.new.due.items c.drop_given_up.new.due.items c.take_out.new.due.items given within
     (more_vertices mid thinned.mesh thinned.sound.triangulated thinned.hull) c.take_out.ensures.clean c.take_out.ensures.mesh c.take_out.ensures.edit c.take_out.ensures.due
     c.take_out.result c.take_out.ensures.point c.take_out.ensures.moved)
 
@@ -69,10 +69,10 @@ pub returns-clause-staying : goal.returns-clause-staying
 returns-clause-staying g c =
     let mid = c.thin_out.new.dcel in
     let thinned = c.thin_out.ensures in
-    let given = given_fewer _ mid c.cut_off.new.dcel c.args.vertex c.thin_out.new.due.items c.cut_off.new.due.items c.drop_given_up.new.due.items _ c.in_ok-opened.ensures.given_up c.drop_given_up.ensures in
+    let given = given_fewer _ mid c.cut_off.new.dcel c.args.vertex c.thin_out.new.due.items c.cut_off.new.due.items c.drop_given_up.new.due.items c.in_ok-opened.ensures.given_up.emptied c.drop_given_up.ensures in
     let within = outside_below mid thinned.mesh c.args.vertex c.args.outside (thinned.outside c.args.outside c.requires.outside) in
     lost_staying _ c.args.dcel.now mid c.take_out.new.dcel c.args.vertex thinned.keeps.vertices thinned.staying
-    (taken_staying _ mid c.cut_off.new.dcel c.take_out.new.dcel c.args.vertex c.thin_out.new.due.items c.drop_given_up.new.due.items c.take_out.new.due.items _ given within
+    (taken_staying _ mid c.cut_off.new.dcel c.take_out.new.dcel c.args.vertex c.thin_out.new.due.items c.drop_given_up.new.due.items c.take_out.new.due.items given within
     (more_vertices mid thinned.mesh thinned.sound.triangulated thinned.hull) c.take_out.ensures.clean c.take_out.ensures.mesh c.take_out.ensures.edit c.take_out.ensures.due)
 
 pub returns-in_err-opened-clause-still : goal.returns-in_err-opened-clause-still

@@ -1,0 +1,136 @@
+-- A vertex with three edges removed from a triangle by one call: it leaves what the calls leave that give it up, clean up and take it out.
+use Rattle.std.proofs.Common.{◌≡◌, inl, inr, ℕ, ◌+◌, ◌-◌, ◌*◌, ◌/◌, ◌<◌, ◌≤◌, ◌==◌, Bool, false, true, List, [], ◌∷◌, ◌++◌, length, map, reverse, refl, sym, ap, ◌∙◌, subst, arith}
+use Rattle.std.specs.List.{list_any}
+use Rattle.std.proofs.lemmas.Bool.{cases_Bool, false≢true}
+use Rattle.std.proofs.lemmas.List.{length-reverse}
+use Rattle.dcel_maps.specs.Conditions.{HasRoom}
+use Rattle.dcel_maps.specs.edits.Fill.{FillsHole, ears, edges_at, faces_at, hole_filled, loop_filled, ring_filled}
+use Rattle.dcel_maps.specs.Removals.{IsListed, Removal, ascending, opened}
+use Rattle.dcel_maps.specs.Renumbering.{cleaned_up, vertex_taken_out}
+use Rattle.dcel_maps.specs.Shapes.{IsLive, IsMesh, Mesh, edge_is_live, face_count, face_of, map_of}
+use Rattle.dcel_maps.specs.Words.{count_of, word_of}
+use Rattle.dcel_maps.proofs.removal.Filled.{word-ear}
+use Rattle.dcel_maps.proofs.removal.FilledMeshes.{ring_filled-mesh}
+use Rattle.dcel_maps.proofs.renumbering.Cleanup.{cleaned_up-mesh}
+use Rattle.dcel_maps.proofs.walks.Links.{links_stand}
+use Rattle.dcel_maps.proofs.words.Ascending.{any-ascending}
+use Rattle.dcel_maps.proofs.words.Counts.{count-append, count-reverse}
+use Rattle.dcel_maps.proofs.words.Cyclic.{count-from_least}
+use Rattle.dcel_maps.proofs.words.Mapped.{count-mapped}
+use Rattle.dcel_maps.proofs.words.Reading.{stands_in_face}
+use Rattle.dcel_predicates.specs.declared.point.Point.{Point}
+use Rattle.dcel_plane.specs.Plane.{point_at}
+use Rattle.dcel_plane.proofs.removal.Cleaned.{cleaned_is}
+use Rattle.dcel_plane.proofs.removal.Deleting.{by_three, hole}
+use Rattle.dcel_plane.proofs.removal.Holes.{IsHole, hole_is}
+use Rattle.dcel_planar.specs.Growing.{IsTriangleMesh}
+use Rattle.dcel_planar.specs.Legalization.{ListsLoose}
+use Rattle.dcel_delaunay.specs.Removing.{IsEmptied, IsFilled, IsThinnedOut}
+use Rattle.dcel_delaunay.proofs.Emptied.{emptied, given_spokes, lists_after}
+use Rattle.dcel_delaunay.proofs.Fewer.{KeepsNeeded, given_fewer, named_dead}
+
+-- the half edges of an ear, and where no more are left it is the ring
+none_left : (rest : List ℕ) → length rest ≡ 0 → rest ≡ []
+none_left [] none = refl
+none_left (x ∷ rest) none = absurd (omega (arith, none))
+
+module _ {DE UE F : Type 0} (stays : UE → Bool) (is_half : DE → Type 0) (is_edge : UE → Type 0) (is_face : F → Type 0) (m new : Mesh Point DE UE F) (mesh : IsMesh m) (due : List ℕ)
+    (sound : IsTriangleMesh m) (v : ℕ) (thin : IsThinnedOut m v) (border : List ℕ) (filled : IsFilled m v border) (three : length border ≡ 3) (room : HasRoom m.shape 0 0 1)
+    (removes : FillsHole is_half is_edge is_face border new (λ halves edges faces. vertex_taken_out (cleaned_up (hole_filled m v border halves edges faces)) v)) where
+  abbrev halves : List DE
+  halves = removes.directed_data
+
+  abbrev edges : List UE
+  edges = removes.undirected_data
+
+  abbrev faces : List F
+  faces = removes.face_data
+
+  abbrev gone : Removal
+  gone = opened (edges_at m v) (faces_at m v) v
+
+  -- the mesh once the vertex is given up and the hole is filled
+  abbrev pub mid : Mesh Point DE UE F
+  mid = hole_filled m v border removes.directed_data removes.undirected_data removes.face_data
+
+  long : 3 ≤ length (reverse border)
+  long = (let e = length-reverse border in omega (arith, three, e))
+
+  last : (p q r : ℕ) (rest : List ℕ) → reverse border ≡ p ∷ q ∷ r ∷ rest → length rest ≡ 0
+  last p q r rest is = (let l = ap length is in let e = length-reverse border in omega (arith, three, e, l))
+
+  pub mid_mesh : IsMesh mid
+  mid_mesh =
+      by_three (λ w. IsMesh (loop_filled m gone w halves edges faces)) (reverse border) long (λ p q r rest is.
+      let none = last p q r rest is in
+      let h = removes.directed_count in
+      let e = removes.undirected_count in
+      let f = removes.face_data_count in
+      ring_filled-mesh m p q r rest halves edges faces mesh sound.closed gone
+      (hole m mesh sound.closed border v filled.round halves edges faces (point_at m) p q r rest is)
+      (record {
+        for_vertices = room.for_vertices;
+        for_edges = (let k = room.for_edges in omega (arith, k, none));
+        for_faces = (let k = room.for_faces in omega (arith, k, none));
+      })
+      (omega (arith, h, three, none)) (omega (arith, e, three, none)) (omega (arith, f, three, none)))
+
+  pub clean_mesh : IsMesh (cleaned_up mid)
+  clean_mesh = cleaned_up-mesh mid mid_mesh
+
+  known : IsHole m mid v (length border)
+  known = hole_is m mesh sound.closed border v filled.round halves edges faces (point_at m)
+
+  -- the record names the edges and faces at the vertex
+  pub mid_named : IsListed mid.shape.removal (edges_at m v) (faces_at m v)
+  mid_named = subst (λ r. IsListed r (edges_at m v) (faces_at m v)) (sym known.removal) (refl, refl)
+
+  pub mid_edges : mid.shape.edges ≡ m.shape.edges
+  mid_edges = (let k = known.edges in omega (arith, k, three))
+
+  pub points_same : (cleaned_up mid).vertex_data ≡ m.vertex_data
+  points_same = (cleaned_is mid mid_mesh).points ∙ known.points
+
+  pub vertices_same : (cleaned_up mid).shape.vertices ≡ m.shape.vertices
+  vertices_same = (cleaned_is mid mid_mesh).vertices ∙ known.vertices
+
+  -- what is on the new face is along the border
+  along : (h : ℕ) → 0 < count_of h (word_of mid.shape.words (face_count m.shape)) → 0 < count_of h (reverse border)
+  along h =
+      by_three (λ w. 0 < count_of h (word_of (loop_filled m gone w halves edges faces).shape.words (face_count m.shape)) → 0 < count_of h w) (reverse border) long
+      (λ p q r rest is found.
+      let ring = hole m mesh sound.closed border v filled.round halves edges faces (point_at m) p q r rest is in
+      ear_of p q r rest (last p q r rest is) h
+      (let same : face_count m.shape + 0 ≡ face_count m.shape = omega arith in
+      subst (λ (k : List ℕ). 0 < count_of h k)
+      (ap (word_of (ring_filled m gone p q r rest halves edges faces).shape.words) (sym same) ∙ word-ear m p q r rest halves edges faces mesh sound.closed gone ring 0) found))
+    where
+      ear_of : (p q r : ℕ) (rest : List ℕ) → length rest ≡ 0 → (h : ℕ) → 0 < count_of h (word_of (ears m.shape.edges p q r rest) 0) → 0 < count_of h (p ∷ q ∷ r ∷ rest)
+      ear_of p q r [] none h found = (let c = count-from_least h (p ∷ q ∷ r ∷ []) in omega (arith, c, found))
+      ear_of p q r (x ∷ rest) none h found = absurd (omega (arith, none))
+
+  each : (f h : ℕ) → face_count m.shape ≤ f → f < face_count mid.shape → IsLive mid.shape h → face_of mid.shape h ≡ f → 0 < count_of (h / 2) (map (λ h. h / 2) border)
+  each f h past below live on =
+      let many = known.faces in
+      let is : face_of mid.shape h ≡ face_count m.shape = omega (arith, past, below, many, three, on) in
+      let found = along h (subst (λ (k : ℕ). 0 < count_of h (word_of mid.shape.words k)) is (stands_in_face (map_of mid.shape) mid.shape.words (links_stand mid_mesh.sound) h live)) in
+      count-mapped (λ h. h / 2) border h (let c = count-reverse h border in omega (arith, c, found))
+
+  module _ (loose : (datum : UE) → is_edge datum → stays datum ≡ false) where
+    all_listed : IsEmptied stays m mid v due (due ++ map (λ h. h / 2) border)
+    all_listed =
+        emptied stays m mesh due sound v thin border filled halves edges faces mid_mesh (due ++ map (λ h. h / 2) border)
+        (lists_after stays m mesh due sound v thin border filled halves edges faces mid_mesh (map (λ h. h / 2) border) each)
+        (given_spokes stays m mesh due sound v thin border filled halves edges faces mid_mesh is_edge loose removes.undirected_default)
+
+    -- edges of the vertex need not be looked at
+    pub listed_but : (spokes fewer : List ℕ) → spokes ≡ ascending (edges_at m v)
+        → ((u : ℕ) → list_any (λ e. e == u) spokes ≡ false → 0 < count_of u (due ++ map (λ h. h / 2) border) → 0 < count_of u fewer) → IsEmptied stays m mid v due fewer
+    listed_but spokes fewer are keeps =
+        given_fewer stays m mid v due (due ++ map (λ h. h / 2) border) fewer all_listed (λ u live found. elim (cases_Bool (list_any (λ e. e == u) spokes)) [
+          | inl there ↦ absurd
+              (false≢true
+              (sym (named_dead mid.shape (edges_at m v) (faces_at m v) mid_named u
+              (sym (any-ascending (λ e. e == u) (edges_at m v)) ∙ ap (list_any (λ e. e == u)) (sym are) ∙ there)) ∙ live))
+          | inr not ↦ keeps u not found
+        ])
