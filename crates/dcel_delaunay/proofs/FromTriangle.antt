@@ -1,38 +1,73 @@
 -- A vertex with three edges removed from a triangle by one call: it leaves what the calls leave that give it up, clean up and take it out.
-use Rattle.std.proofs.Common.{◌≡◌, inl, inr, ℕ, ◌+◌, ◌-◌, ◌*◌, ◌/◌, ◌<◌, ◌≤◌, ◌==◌, Bool, false, true, List, [], ◌∷◌, ◌++◌, length, map, reverse, refl, sym, ap, ◌∙◌, subst, arith}
+use Rattle.std.proofs.Common.{◌≡◌, inl, inr, ℕ, ◌+◌, ◌/◌, ◌<◌, ◌≤◌, ◌==◌, Bool, false, List, [], ◌∷◌, ◌++◌, length, map, reverse, refl, sym, ap, ◌∙◌, subst, arith}
 use Rattle.std.specs.List.{list_any}
-use Rattle.std.proofs.lemmas.Bool.{cases_Bool, false≢true}
+use Rattle.std.proofs.lemmas.Bool.{cases_Bool, cases_lt, false≢true}
 use Rattle.std.proofs.lemmas.List.{length-reverse}
 use Rattle.dcel_maps.specs.Conditions.{HasRoom}
 use Rattle.dcel_maps.specs.edits.Fill.{FillsHole, ears, edges_at, faces_at, hole_filled, loop_filled, ring_filled}
 use Rattle.dcel_maps.specs.Removals.{IsListed, Removal, ascending, opened}
 use Rattle.dcel_maps.specs.Renumbering.{cleaned_up, vertex_taken_out}
-use Rattle.dcel_maps.specs.Shapes.{IsLive, IsMesh, Mesh, edge_is_live, face_count, face_of, map_of}
+use Rattle.dcel_maps.specs.Shapes.{IsLive, IsMesh, Mesh, face_count, face_of, map_of, next_of}
+use Rattle.dcel_maps.specs.Walking.{ccw_of, walk_of}
 use Rattle.dcel_maps.specs.Words.{count_of, word_of}
 use Rattle.dcel_maps.proofs.removal.Filled.{word-ear}
 use Rattle.dcel_maps.proofs.removal.FilledMeshes.{ring_filled-mesh}
 use Rattle.dcel_maps.proofs.renumbering.Cleanup.{cleaned_up-mesh}
 use Rattle.dcel_maps.proofs.walks.Links.{links_stand}
+use Rattle.dcel_maps.proofs.walks.Turning.{walk-out_edges}
 use Rattle.dcel_maps.proofs.words.Ascending.{any-ascending}
 use Rattle.dcel_maps.proofs.words.Counts.{count-append, count-reverse}
 use Rattle.dcel_maps.proofs.words.Cyclic.{count-from_least}
-use Rattle.dcel_maps.proofs.words.Mapped.{count-mapped}
+use Rattle.dcel_maps.proofs.words.Mapped.{count-mapped, mapped_from, stands_any}
 use Rattle.dcel_maps.proofs.words.Reading.{stands_in_face}
 use Rattle.dcel_predicates.specs.declared.point.Point.{Point}
 use Rattle.dcel_plane.specs.Plane.{point_at}
+use Rattle.dcel_plane.proofs.covering.Triangles.{round}
 use Rattle.dcel_plane.proofs.removal.Cleaned.{cleaned_is}
 use Rattle.dcel_plane.proofs.removal.Deleting.{by_three, hole}
 use Rattle.dcel_plane.proofs.removal.Holes.{IsHole, hole_is}
 use Rattle.dcel_planar.specs.Growing.{IsTriangleMesh}
-use Rattle.dcel_planar.specs.Legalization.{ListsLoose}
 use Rattle.dcel_delaunay.specs.Removing.{IsEmptied, IsFilled, IsThinnedOut}
+use Rattle.dcel_delaunay.specs.Thinning.{ListsAround, with_spokes}
 use Rattle.dcel_delaunay.proofs.Emptied.{emptied, given_spokes, lists_after}
-use Rattle.dcel_delaunay.proofs.Fewer.{KeepsNeeded, given_fewer, named_dead}
+use Rattle.dcel_delaunay.proofs.Fewer.{given_fewer, named_dead}
 
 -- the half edges of an ear, and where no more are left it is the ring
 none_left : (rest : List ℕ) → length rest ≡ 0 → rest ≡ []
 none_left [] none = refl
 none_left (x ∷ rest) none = absurd (omega (arith, none))
+
+-- where the sides around v are listed, the list has what it would have with the border and the edges of v, but for these
+module _ {DE UE F : Type 0} (m : Mesh Point DE UE F) (mesh : IsMesh m) (v : ℕ) (thin : IsThinnedOut m v) (border : List ℕ) (filled : IsFilled m v border) (list : List ℕ)
+    (around : ListsAround m.shape v (with_spokes m v list)) where
+  border_listed : (u : ℕ) → 0 < count_of u (map (λ h. h / 2) border) → 0 < count_of u (with_spokes m v list)
+  border_listed u found =
+      let loop = filled.round in
+      let (x, there, is) = mapped_from (λ h. h / 2) border u found in
+      let c = count-reverse x border in
+      let turned : 0 < count_of x (map (next_of m.shape) (walk_of m.shape (ccw_of m.shape) loop.first)) = subst (λ (l : List ℕ). 0 < count_of x l) loop.ring (omega (arith, c, there)) in
+      let (k, in_walk, next) = mapped_from (next_of m.shape) (walk_of m.shape (ccw_of m.shape) loop.first) x turned in
+      let out = (walk-out_edges mesh.sound v loop.first loop.out).no_other k in_walk in
+      let inner = thin.inside k out in
+      let tri = round m mesh thin.triangles k out.live inner in
+      let listed = around k (next_of m.shape k) out.live out.start inner tri.live_y tri.face_y in
+      subst (λ (y : ℕ). 0 < count_of y (with_spokes m v list)) (ap (λ (h : ℕ). h / 2) next ∙ is) listed
+
+  pub around_enough : (spokes : List ℕ) → spokes ≡ ascending (edges_at m v) → (u : ℕ) → list_any (λ e. e == u) spokes ≡ false
+      → 0 < count_of u (with_spokes m v list ++ map (λ h. h / 2) border) → 0 < count_of u list
+  around_enough spokes are u not found =
+      let none : list_any (λ e. e == u) (edges_at m v) ≡ false =
+      sym (any-ascending (λ e. e == u) (edges_at m v)) ∙ ap (list_any (λ e. e == u)) (sym are) ∙ not in
+      let whole = count-append u (with_spokes m v list) (map (λ h. h / 2) border) in
+      let parts = count-append u list (edges_at m v) in
+      let there : 0 < count_of u (with_spokes m v list) = elim (cases_lt 0 (count_of u (with_spokes m v list))) [
+        | inl is ↦ is
+        | inr missing ↦ border_listed u (omega (arith, whole, found, missing))
+      ] in
+      elim (cases_lt 0 (count_of u (edges_at m v))) [
+        | inl own ↦ absurd (false≢true (sym none ∙ stands_any u (edges_at m v) own))
+        | inr off ↦ omega (arith, there, parts, off)
+      ]
 
 module _ {DE UE F : Type 0} (stays : UE → Bool) (is_half : DE → Type 0) (is_edge : UE → Type 0) (is_face : F → Type 0) (m new : Mesh Point DE UE F) (mesh : IsMesh m) (due : List ℕ)
     (sound : IsTriangleMesh m) (v : ℕ) (thin : IsThinnedOut m v) (border : List ℕ) (filled : IsFilled m v border) (three : length border ≡ 3) (room : HasRoom m.shape 0 0 1)

@@ -21,4 +21,5 @@ pub mod Taking
 pub mod Telling
 pub mod Theorem
 pub mod Thinned
+pub mod ThreeSpokes
 pub mod listing

@@ -6,6 +6,7 @@ ghost use Rattle.dcel_planar.specs.Legalization.{ListsLoose};
 ghost use Rattle.dcel_delaunay.specs.Removing.{FailsToTakeOut, Loses};
 ghost use Rattle.dcel_delaunay.specs.Staying.{HasConstraintAt, KeepsStaying, LosesNoneStaying};
 
+mod around;
 mod cleanup;
 mod corner;
 mod ears;

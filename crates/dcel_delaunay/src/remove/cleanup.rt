@@ -113,7 +113,7 @@ fn drop_dead<UE, A: Allocator, L: Allocator>(dcel: &EdgeMesh<UE, A>, due: &mut D
 }
 
 /// Drops edges from a list, those of the other list.
-pub(crate) fn drop_each<L: Allocator>(due: &mut Due<L>, gone: &[FixedUndirectedEdgeHandle])
+fn drop_each<L: Allocator>(due: &mut Due<L>, gone: &[FixedUndirectedEdgeHandle])
     ensures { (u : ℕ) → list_any (λ e. e == u) gone.now ≡ false → 0 < count_of u due.old.items → 0 < count_of u due.new.items }
 {
     let mut at = 0;
