@@ -310,11 +310,12 @@ fn reserve_face(dcel: &mut Watched) -> Result<(), Fail> {
 /// Removes vertex 3 from the triangle. Returns whether there was memory.
 fn remove_from_cut<A: Allocator>(dcel: &mut Mesh<A>, lists: &Lists) -> Result<bool, Fail> {
     let border = lists.border.as_slice();
+    let center = vertex(3);
     require!(
-        dcel.can_remove_from_triangle(border, vertex(3))
+        dcel.can_remove_from_triangle(border, center)
             && dcel.has_room_for(Room::REMOVE_FROM_TRIANGLE)
     );
-    Ok(remove_from_triangle(dcel, border, vertex(3)).is_ok())
+    Ok(remove_from_triangle(dcel, border, center).is_ok())
 }
 
 fn check_removed(alloc: Global) -> Result<(), Fail> {
