@@ -31,9 +31,12 @@ impl Random {
     /// Returns a number from `least` to `least + count - 1`.
     fn within(&mut self, least: usize, count: usize) -> u32 {
         let number = self.next() % (count.max(1) as u64);
-        least.saturating_add(number as usize) as u32
+        least.saturating_add(number as usize).min(LARGEST) as u32
     }
 }
+
+/// The largest number that is drawn.
+const LARGEST: usize = 4_294_967_295;
 
 /// The first state.
 const SEED: u64 = 20_240_607;
@@ -131,7 +134,7 @@ fn drawn(
     random: &mut Random,
     alloc: Global,
 ) -> Result<Option<FixedVertexHandle>, Fail> {
-    let count = dcel.num_vertices();
+    let count = dcel.num_vertices().min(LARGEST);
     let start = random.within(0, count);
     match first_of(dcel, start, count as u32, alloc)? {
         Some(center) => Ok(Some(center)),
