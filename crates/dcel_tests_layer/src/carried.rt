@@ -179,11 +179,7 @@ pub fn take_out_by(
 }
 
 /// Removes a vertex, given up with its border loop.
-pub fn take_out(
-    dcel: &mut Mesh,
-    center: FixedVertexHandle,
-    alloc: Global,
-) -> Result<Removed, Fail> {
+fn take_out(dcel: &mut Mesh, center: FixedVertexHandle, alloc: Global) -> Result<Removed, Fail> {
     let border = border_of(dcel, center, alloc)?;
     take_out_by(dcel, center, border)
 }
