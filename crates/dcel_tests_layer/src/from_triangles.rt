@@ -1,19 +1,20 @@
 //! Vertices removed from triangles: what one call and three leave in meshes that grow at random,
 //! and what is asked.
 
-use crate::carried::{Removed, border_of, take_out};
-use dcel_bench::checks::{holds, same};
+use crate::carried::{Removed, border_of};
+use crate::inside::{Random, Wanted, check_beside, drawn, edges_of, flip_some, insert_some};
+use dcel_bench::checks::same;
 use dcel_bench::data::write_distinct;
-use dcel_bench::lines::{carry_out, grown, has_memory, read_command};
-use dcel_bench::meshes::{Mesh, inner_face, undirected_edge, vertex};
+use dcel_bench::lines::{carry_out, grown, read_command};
+use dcel_bench::meshes::Mesh;
 use dcel_bench::require;
-use dcel_bench::snapshots::{Snapshot, snapshot_of};
 use dcel_commands::commands::Command;
 use spade_dcel::handles::{FixedDirectedEdgeHandle, FixedUndirectedEdgeHandle, FixedVertexHandle};
-use spade_dcel::operations::{Room, flip_cw, remove_from_triangle};
+use spade_dcel::operations::{Room, remove_from_triangle};
 use std::alloc::Global;
 use std::test::Fail;
 
+<<<<<<< HEAD
 /// Numbers at random: G. Marsaglia's xorshift generator.
 #[derive(Clone, Copy)]
 struct Random {
@@ -41,15 +42,15 @@ const LARGEST: usize = 4_294_967_295;
 /// The first state.
 const SEED: u64 = 20_240_607;
 
+=======
+>>>>>>> 9d9c9f55
 /// How many vertices are removed.
 const REMOVALS: usize = 1000;
-
-/// How many vertices there are before a removal.
-const VERTICES: usize = 30;
 
 /// How many vertices are removed before elements get other data.
 const REMOVALS_BETWEEN: usize = 8;
 
+<<<<<<< HEAD
 /// How many edges are drawn before a removal, to be flipped if they can be.
 const FLIPS: usize = 12;
 
@@ -151,6 +152,10 @@ fn edges_of(dcel: &Mesh, center: FixedVertexHandle, alloc: Global) -> Result<Vec
     }
     Ok(edges)
 }
+=======
+/// Triangles with a vertex inside, whose border loop begins as `border_of` has it.
+const TRIANGLES: Wanted = Wanted { edges: 3, later: 0 };
+>>>>>>> 9d9c9f55
 
 /// Checks that these are the edges of a vertex that has three, in ascending order.
 fn check_edges(found: [FixedUndirectedEdgeHandle; 3], edges: &[usize]) -> Result<(), Fail> {
@@ -182,54 +187,39 @@ fn remove(
 
 fn remove_at_once(
     dcel: &mut Mesh,
+    border: &[FixedDirectedEdgeHandle],
     center: FixedVertexHandle,
     alloc: Global,
 ) -> Result<Removed, Fail> {
-    let border = border_of(dcel, center, alloc)?;
     let edges = edges_of(dcel, center, alloc)?;
-    remove(dcel, &border, center, &edges)
+    remove(dcel, border, center, &edges)
 }
 
-/// Removes a vertex by three calls, and checks what they return. Returns what they leave.
-fn left_by_three(
+/// Removes a vertex from a triangle, and from this clone by three calls, which leave and return the
+/// same.
+fn check_removed(
     dcel: &mut Mesh,
+    clone: &mut Mesh,
     center: FixedVertexHandle,
-    wanted: Removed,
-    alloc: Global,
-) -> Result<Snapshot, Fail> {
-    same(take_out(dcel, center, alloc)?, wanted, "what is removed")?;
-    snapshot_of(dcel, alloc)
-}
-
-/// Checks that a mesh is as this one once three calls have removed the vertex, and that they return
-/// this.
-fn check_beside(
-    dcel: &Mesh,
-    three: &mut Mesh,
-    center: FixedVertexHandle,
-    removed: Removed,
     alloc: Global,
 ) -> Result<(), Fail> {
-    let wanted = left_by_three(three, center, removed, alloc)?;
-    let what = format_args!("what is left without vertex {}", center.index());
-    same(&snapshot_of(dcel, alloc)?, &wanted, what)?;
-    holds(dcel.sanity_check(), "a sound mesh")
+    let border = border_of(dcel, center, alloc)?;
+    let removed = remove_at_once(dcel, &border, center, alloc)?;
+    check_beside(dcel, clone, border, center, removed, alloc)
 }
 
-/// Removes a vertex from a triangle, and from a clone by three calls, which leave and return the
-/// same.
-fn check_removed(dcel: &mut Mesh, center: FixedVertexHandle, alloc: Global) -> Result<(), Fail> {
+/// Does so with a clone.
+fn check_with_clone(dcel: &mut Mesh, center: FixedVertexHandle, alloc: Global) -> Result<(), Fail> {
     let mut clone = dcel.try_clone(alloc)?;
-    let removed = remove_at_once(dcel, center, alloc)?;
-    check_beside(dcel, &mut clone, center, removed, alloc)
+    check_removed(dcel, &mut clone, center, alloc)
 }
 
 /// Has the mesh grow, and removes a vertex.
 fn check_turn(dcel: &mut Mesh, random: &mut Random, alloc: Global) -> Result<(), Fail> {
     flip_some(dcel, random);
     insert_some(dcel, random)?;
-    match drawn(dcel, random, alloc)? {
-        Some(center) => check_removed(dcel, center, alloc),
+    match drawn(dcel, random, TRIANGLES, alloc)? {
+        Some(center) => check_with_clone(dcel, center, alloc),
         None => Err(Fail::new("no vertex has three edges")),
     }
 }
@@ -244,7 +234,7 @@ fn check_turns(dcel: &mut Mesh, random: &mut Random, alloc: Global) -> Result<()
 }
 
 fn check_all(dcel: &mut Mesh, alloc: Global) -> Result<(), Fail> {
-    let mut random = Random { state: SEED };
+    let mut random = Random::new();
     insert_some(dcel, &mut random)?;
     for _ in 0..REMOVALS / REMOVALS_BETWEEN {
         check_turns(dcel, &mut random, alloc)?;
