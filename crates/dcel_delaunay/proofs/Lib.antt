@@ -14,6 +14,7 @@ pub mod Lost
 pub mod Orders
 pub mod Outline
 pub mod Renaming
+pub mod SameNumbers
 pub mod Standing
 pub mod Staying
 pub mod TakenOut

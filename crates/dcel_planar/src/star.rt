@@ -1,7 +1,7 @@
 //! Edges flipped around a vertex that was just put into a Delaunay triangulation.
 
 ghost use Rattle.std.specs.Prelude.{◌≡◌, ◌↔◌, ◌*◌, ◌+◌, IsTrue, OnErr, OnOk, true};
-ghost use Rattle.dcel_maps.specs.Shapes.{edge_is_live, origin_of, prev_of};
+ghost use Rattle.dcel_maps.specs.Shapes.{IsLive, edge_is_live, origin_of, prev_of};
 ghost use Rattle.dcel_plane.specs.Plane.{ListsCircled, point_at};
 ghost use Rattle.dcel_plane.specs.star.Star.{HasEmptyCirclesBut, edges_beside};
 ghost use Rattle.dcel_planar.specs.Growing.{Keeps};
@@ -13,7 +13,7 @@ use crate::flips::is_still_illegal;
 use crate::insert::edges_next_to;
 use crate::mesh::EdgeMesh;
 use crate::planar::PlanarMesh;
-use spade_dcel::handles::{FixedUndirectedEdgeHandle, FixedVertexHandle};
+use spade_dcel::handles::{FixedDirectedEdgeHandle, FixedUndirectedEdgeHandle, FixedVertexHandle};
 use spade_dcel::laws::every_mesh;
 use spade_dcel::operations::flip_cw;
 use std::alloc::{AllocError, Allocator};
@@ -70,10 +70,28 @@ fn edges_beyond<UE, A: Allocator>(
     ensures near { origin_of dcel.now.shape (prev_of dcel.now.shape (2 * edge)) ≡ vertex → result ≡ edges_beside dcel.now.shape (2 * edge + 1) }
     ensures far { ¬ (origin_of dcel.now.shape (prev_of dcel.now.shape (2 * edge)) ≡ vertex) → result ≡ edges_beside dcel.now.shape (2 * edge) }
 {
+    edges_next_to(dcel, half_beyond(dcel, edge, vertex))
+}
+
+/// Returns the half of an edge in the triangle beyond it, as seen from a vertex that is across from it
+/// on one side.
+///
+/// Which half it is can't be foreseen, so it is computed without a branch.
+#[inline]
+fn half_beyond<UE, A: Allocator>(
+    dcel: &EdgeMesh<UE, A>,
+    edge: FixedUndirectedEdgeHandle,
+    vertex: FixedVertexHandle,
+) -> FixedDirectedEdgeHandle
+    requires { edge_is_live dcel.now.shape edge ≡ true }
+    ensures near { origin_of dcel.now.shape (prev_of dcel.now.shape (2 * edge)) ≡ vertex → result ≡ 2 * edge + 1 }
+    ensures far { ¬ (origin_of dcel.now.shape (prev_of dcel.now.shape (2 * edge)) ≡ vertex) → result ≡ 2 * edge }
+    ensures live { IsLive dcel.now.shape result }
+{
     let half = dcel.undirected_edge(edge).as_directed();
     if half.prev().from().fix() == vertex {
-        edges_next_to(dcel, half.rev().fix())
+        half.rev().fix()
     } else {
-        edges_next_to(dcel, half.fix())
+        half.fix()
     }
 }

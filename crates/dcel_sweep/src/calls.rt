@@ -1,11 +1,11 @@
 //! Calls alone, each on a mesh of its own without spare room: by the operation itself and as a
-//! command, on a whole mesh, or from a triangle.
+//! command, on a whole mesh, or at once.
 
 use crate::operations::{operate, operation};
 use crate::rows::{Row, number, rows_of};
 use crate::swept::Swept;
 use crate::watched::{fitted, made};
-use crate::{triangles, whole};
+use crate::{at_once, whole};
 use dcel_bench::checks::{holds, same};
 use dcel_bench::lines::{has_memory, read_command};
 use dcel_bench::meshes::Mesh;
@@ -25,8 +25,8 @@ pub enum Way {
     Apply,
     /// On a whole mesh, by a call that is no command.
     Whole,
-    /// From a triangle, by a call that is no command and does what three do.
-    FromTriangle,
+    /// At once, by a call that is no command and does what three do.
+    AtOnce,
 }
 
 /// A call that is refused a request.
@@ -56,7 +56,7 @@ fn function(line: &str, way: Way) -> Result<&'static str, Fail> {
         Way::Operation => operation(line),
         Way::Apply => Ok("apply"),
         Way::Whole => whole::function(line),
-        Way::FromTriangle => Ok(triangles::FUNCTION),
+        Way::AtOnce => Ok(at_once::function(line)),
     }
 }
 
@@ -100,7 +100,7 @@ pub fn make<'a>(
     memory.refuse(Refusals::None);
     match way {
         Way::Whole => whole::make(dcel, memory, line, refusals),
-        Way::FromTriangle => triangles::make(dcel, memory, line, refusals),
+        Way::AtOnce => at_once::make(dcel, memory, line, refusals),
         _ => make_line(dcel, memory, line, way, refusals),
     }
 }
@@ -161,7 +161,7 @@ fn comes(case: Case, snapshots: [&Snapshot; 2], alloc: Global) -> Result<bool, F
 fn is_carried_out(dcel: &mut Mesh, line: &str, way: Way, alloc: Global) -> Result<bool, Fail> {
     match way {
         Way::Whole => Ok(true),
-        Way::FromTriangle => triangles::make_three(dcel, line, alloc),
+        Way::AtOnce => at_once::make_three(dcel, line, alloc),
         _ => has_memory(dcel, read_command(line, alloc)?),
     }
 }
@@ -257,10 +257,10 @@ pub fn sweep_meshes(block: &str, swept: &mut Swept, alloc: Global) -> Result<(),
     Ok(())
 }
 
-/// Sweeps vertices removed from triangles.
+/// Sweeps vertices removed at once.
 pub fn sweep_removals(block: &str, swept: &mut Swept, alloc: Global) -> Result<(), Fail> {
     for row in &rows_of(block, alloc)? {
-        sweep(*row, Way::FromTriangle, swept, alloc)?;
+        sweep(*row, Way::AtOnce, swept, alloc)?;
     }
     Ok(())
 }

@@ -12,6 +12,7 @@
 //! that fails. `tools/gate/check_sweep` looks for functions without a row.
 #![tactic(auto)]
 
+mod at_once;
 mod calls;
 mod flips;
 mod grows;
@@ -22,7 +23,6 @@ mod removes;
 mod rows;
 mod runs;
 mod swept;
-mod triangles;
 mod watched;
 mod whole;
 

@@ -166,17 +166,22 @@ fn give_up(
 /// The datum of a vertex that was removed, and the vertex that got its number, if one did.
 pub type Removed = (i64, Option<FixedVertexHandle>);
 
-/// Removes a vertex: it is given up with its border loop, and the hole is filled and cleaned up.
-pub fn take_out(
+/// Removes a vertex: it is given up with this border loop, and the hole is filled and cleaned up.
+pub fn take_out_by(
     dcel: &mut Mesh,
     center: FixedVertexHandle,
-    alloc: Global,
+    border: Vec<FixedDirectedEdgeHandle>,
 ) -> Result<Removed, Fail> {
-    let border = border_of(dcel, center, alloc)?;
     give_up(dcel, center, border)?;
     require!(dcel.can_swap_remove(center));
     let removed = swap_remove_vertex(dcel, center);
     Ok((removed.removed_vertex, removed.swapped_in_vertex))
+}
+
+/// Removes a vertex, given up with its border loop.
+fn take_out(dcel: &mut Mesh, center: FixedVertexHandle, alloc: Global) -> Result<Removed, Fail> {
+    let border = border_of(dcel, center, alloc)?;
+    take_out_by(dcel, center, border)
 }
 
 /// Removes a vertex inside triangles, and checks that the mesh is sound, and its counts of

@@ -19,9 +19,13 @@ mod elements_data;
 #[cfg(test)]
 mod flips;
 #[cfg(test)]
+mod from_squares;
+#[cfg(test)]
 mod from_triangles;
 #[cfg(test)]
 mod given;
+#[cfg(test)]
+mod inside;
 #[cfg(test)]
 mod limits;
 #[cfg(test)]

@@ -1,5 +1,5 @@
 -- A vertex that is given up with its edges and faces is taken out with them at once: what is left holds the mesh that is cleaned up, without it.
-use Rattle.std.proofs.Common.{◌≡◌, ◌+◌, ◌-◌, ◌≤◌, ℕ, inr, List, [], ◌∷◌, ◌++◌, fold, length, reverse, slice_index, Some, refl, sym, ap, ap₂, ◌∙◌, subst, subst₂}
+use Rattle.std.proofs.Common.{◌≡◌, ◌+◌, ◌-◌, ℕ, inr, List, [], ◌∷◌, ◌++◌, fold, length, reverse, slice_index, Some, refl, sym, ap, ap₂, ◌∙◌, subst, subst₂}
 use Rattle.dcel_store.specs.Lists.{HasPlaces, Lists}
 use Rattle.dcel_edits.specs.Fill.{CanGiveUp, CanPutEars, EarsPut, begun_stored, closing, given_up}
 use Rattle.dcel_edits.proofs.stored.Rings.{hole_can, hole_given_up, hole_holds}
@@ -13,7 +13,6 @@ use Rattle.dcel_maps.specs.Borders.{GivesUpRound, IsBorderLoop}
 use Rattle.dcel_maps.specs.Conditions.{CanSwapRemove, HasRoom}
 use Rattle.dcel_maps.specs.EditLists.{ComesBy, EditedBy, ears_cut, vertex_cut_off}
 use Rattle.dcel_maps.specs.EditLists.EditKind.{numbers_changed}
-use Rattle.dcel_maps.specs.edits.DefaultData.{AddsEdgesAndFaces}
 use Rattle.dcel_maps.specs.edits.Fill.{FillsHole, border_filled, edges_at, faces_at, hole_filled, loop_filled}
 use Rattle.dcel_maps.specs.Regions.{LiesInside}
 use Rattle.dcel_maps.specs.Removals.{Removal, Closed, Cleaned, IsListed, ascending, opened}

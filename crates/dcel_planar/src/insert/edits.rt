@@ -32,7 +32,7 @@ use spade_dcel::operations::{
 };
 use std::alloc::Allocator;
 
-/// Appends a vertex, if there are numbers and memory for it and for three edges and two faces.
+/// Appends a vertex, if there is memory for it, and numbers for it and for three edges and two faces.
 pub(crate) fn append<UE, A: Allocator>(
     dcel: &mut EdgeMesh<UE, A>,
     point: Point,
@@ -48,9 +48,6 @@ pub(crate) fn append<UE, A: Allocator>(
     every_mesh(dcel);
     if !dcel.has_room(1, 3, 2) {
         return Err(InsertionError::TooManyPoints);
-    }
-    if dcel.reserve_capacity(1, 3, 2).is_err() {
-        return Err(InsertionError::OutOfMemory);
     }
     match append_unconnected_vertex(dcel, point) {
         Ok(vertex) => Ok(vertex),

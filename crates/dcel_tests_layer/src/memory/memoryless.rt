@@ -11,18 +11,22 @@ use dcel_bench::snapshots::snapshot_of;
 use dcel_bench::talks::{Talk, push_talk};
 use spade_dcel::handles::{FixedDirectedEdgeHandle, FixedVertexHandle};
 use spade_dcel::iterators::HullIterator;
-use spade_dcel::operations::{IsolateVertexResult, Room, remove_from_triangle};
+use spade_dcel::operations::{IsolateVertexResult, Room, remove_from_square, remove_from_triangle};
 use std::alloc::{AllocError, Allocator, Global};
 use std::test::Fail;
 
 /// A triangle that vertex 3 cuts into three, and vertex 4 beside it.
 const CUT: &str = "triangle 7 -8 9\nappend 10\ninsert 3 1\nappend 11";
 
-/// Empty; cut; with vertex 3 given up while a removal is open, and once it is cleaned up; the line
+/// The same with vertex 4 on the edge from vertex 0 to vertex 3.
+const SPLIT: &str = "triangle 7 -8 9\nappend 10\ninsert 3 1\nappend 11\nsplit 6 4";
+
+/// Empty; cut; split; with vertex 3 given up while a removal is open, and once it is cleaned up; the line
 /// 2, 0, 1.
-const MESHES: [&str; 5] = [
+const MESHES: [&str; 6] = [
     "",
     CUT,
+    SPLIT,
     "triangle 7 -8 9\nappend 10\ninsert 3 1\nappend 11\nisolate 3 1 3 5",
     "triangle 7 -8 9\nappend 10\ninsert 3 1\nappend 11\nisolate 3 1 3 5\ncleanup 3 4 5 / 1 2 3",
     "append 7\nappend -8\nsetup 0 1\nappend 9\nextend 0 2",
@@ -178,6 +182,11 @@ struct Lists {
     opened: IsolateVertexResult,
 }
 
+/// Returns the border loop of vertex 4 once it splits an edge.
+fn square() -> [FixedDirectedEdgeHandle; 4] {
+    [1, 11, 8, 5].map(half_edge)
+}
+
 fn make_lists(alloc: Global) -> Result<Lists, AllocError> {
     Ok(Lists {
         border: handles(&[1, 3, 5], alloc)?,
@@ -191,7 +200,7 @@ fn make_lists(alloc: Global) -> Result<Lists, AllocError> {
 }
 
 /// Returns the tests that are about lists and the whole mesh.
-fn tested_whole<A: Allocator>(dcel: &Mesh<A>, lists: &Lists) -> [bool; 12] {
+fn tested_whole<A: Allocator>(dcel: &Mesh<A>, lists: &Lists) -> [bool; 13] {
     let border = lists.border.as_slice();
     let edges = lists.opened.edges_to_remove.as_slice();
     let faces = lists.opened.faces_to_remove.as_slice();
@@ -202,6 +211,7 @@ fn tested_whole<A: Allocator>(dcel: &Mesh<A>, lists: &Lists) -> [bool; 12] {
         dcel.is_listed(&lists.opened),
         dcel.can_isolate_vertex_and_fill_hole(border, vertex(3)),
         dcel.can_remove_from_triangle(border, vertex(3)),
+        dcel.can_remove_from_square(&square(), vertex(4)),
         dcel.can_remesh_edge_ring(border, edges, faces),
         dcel.can_disconnect_edge_strip(border),
         dcel.has_room_for(Room::SPLIT_EDGE),
@@ -301,27 +311,38 @@ fn data_are_written_without_memory(rt: HostRuntime) -> Result<(), Fail> {
     check_written(rt.alloc())
 }
 
-/// Gives a mesh a place for one more face.
-fn reserve_face(dcel: &mut Watched) -> Result<(), Fail> {
-    require!(dcel.has_room(0, 0, 1));
-    Ok(dcel.reserve_capacity(0, 0, 1)?)
+/// Gives a mesh places for more edges and faces.
+fn reserve(dcel: &mut Watched, edges: usize, faces: usize) -> Result<(), Fail> {
+    require!(dcel.has_room(0, edges, faces));
+    Ok(dcel.reserve_capacity(0, edges, faces)?)
 }
 
 /// Removes vertex 3 from the triangle. Returns whether there was memory.
 fn remove_from_cut<A: Allocator>(dcel: &mut Mesh<A>, lists: &Lists) -> Result<bool, Fail> {
     let border = lists.border.as_slice();
+    let center = vertex(3);
     require!(
-        dcel.can_remove_from_triangle(border, vertex(3))
+        dcel.can_remove_from_triangle(border, center)
             && dcel.has_room_for(Room::REMOVE_FROM_TRIANGLE)
     );
-    Ok(remove_from_triangle(dcel, border, vertex(3)).is_ok())
+    Ok(remove_from_triangle(dcel, border, center).is_ok())
+}
+
+/// Removes vertex 4 from the square. Returns whether there was memory.
+fn remove_from_split<A: Allocator>(dcel: &mut Mesh<A>) -> Result<bool, Fail> {
+    let border = square();
+    let center = vertex(4);
+    require!(
+        dcel.can_remove_from_square(&border, center) && dcel.has_room_for(Room::REMOVE_FROM_SQUARE)
+    );
+    Ok(remove_from_square(dcel, &border, center).is_ok())
 }
 
 fn check_removed(alloc: Global) -> Result<(), Fail> {
     let memory = Refusing::new(alloc);
     let lists = make_lists(alloc)?;
     let mut dcel = made(&memory, CUT)?;
-    reserve_face(&mut dcel)?;
+    reserve(&mut dcel, 0, 1)?;
     memory.refuse(Refusals::From(0));
     let is_removed = remove_from_cut(&mut dcel, &lists)?;
     same((is_removed, memory.requests()), (true, 0), "requests")
@@ -332,6 +353,21 @@ fn check_removed(alloc: Global) -> Result<(), Fail> {
 #[test]
 fn a_vertex_is_removed_from_a_triangle_without_memory(rt: HostRuntime) -> Result<(), Fail> {
     check_removed(rt.alloc())
+}
+
+fn check_removed_from_square(alloc: Global) -> Result<(), Fail> {
+    let memory = Refusing::new(alloc);
+    let mut dcel = made(&memory, SPLIT)?;
+    reserve(&mut dcel, 1, 2)?;
+    memory.refuse(Refusals::From(0));
+    let is_removed = remove_from_split(&mut dcel)?;
+    same((is_removed, memory.requests()), (true, 0), "requests")
+}
+
+/// The mesh has places for the edge and the faces that fill the hole.
+#[test]
+fn a_vertex_is_removed_from_a_square_without_memory(rt: HostRuntime) -> Result<(), Fail> {
+    check_removed_from_square(rt.alloc())
 }
 
 /// Lines that have memory, and lines after them where there is none any more.

@@ -205,6 +205,25 @@ impl<V, DE, UE, F, A: Allocator> Dcel<V, DE, UE, F, A> {
         self.can_isolate_vertex_and_fill_hole(border_loop, vertex)
     }
 
+    /// Returns whether a vertex can be removed from a square.
+    ///
+    /// [`remove_from_square`](crate::operations::remove_from_square) asks for this and for room:
+    /// no removal is open, and the list is the border loop of the vertex
+    /// ([`is_border_loop`](Self::is_border_loop)), with four half edges.
+    pub fn can_remove_from_square(
+        &self,
+        border_loop: &[FixedDirectedEdgeHandle],
+        vertex: FixedVertexHandle,
+    ) -> bool
+        ensures { let shape = self.now.shape in
+            IsTrue result ↔ ((shape.removal ≡ Closed) × IsBorderLoop shape border_loop.now vertex × (length border_loop.now ≡ 4)) }
+    {
+        if border_loop.len() != 4 {
+            return false;
+        }
+        self.can_isolate_vertex_and_fill_hole(border_loop, vertex)
+    }
+
     /// Returns whether the elements inside a ring can be given up and the hole filled.
     ///
     /// [`remesh_edge_ring`](crate::operations::remesh_edge_ring) asks for this and for room: no

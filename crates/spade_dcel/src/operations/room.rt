@@ -93,6 +93,13 @@ impl Room {
         faces: 1,
     };
 
+    /// What [`remove_from_square`](super::remove_from_square) adds, before it takes out more.
+    pub const REMOVE_FROM_SQUARE: Room = Room {
+        vertices: 0,
+        undirected_edges: 1,
+        faces: 2,
+    };
+
     /// Returns what a call adds that fills a hole bounded by this many half edges.
     ///
     /// The calls are [`isolate_vertex_and_fill_hole`](super::isolate_vertex_and_fill_hole) and

@@ -1,7 +1,8 @@
-//! Vertices removed from triangles by one call, which is no command. It leaves what three calls
-//! leave, one after another.
+//! Vertices removed from triangles and squares, each by one call, which is no command. It leaves
+//! what three calls leave, one after another.
 //!
-//! Its row is a line that gives up the vertex: the call takes the same border loop.
+//! Its row is a line that gives up the vertex: the call takes the same border loop, of three half
+//! edges or of four.
 
 use dcel_bench::lines::{has_memory, opened, read_command};
 use dcel_bench::meshes::Mesh;
@@ -9,12 +10,23 @@ use dcel_bench::refusing::{Memory, Refusals, Watched};
 use dcel_bench::require;
 use dcel_commands::commands::Command;
 use spade_dcel::handles::{FixedDirectedEdgeHandle, FixedVertexHandle};
-use spade_dcel::operations::{Room, cleanup_isolated_vertex, remove_from_triangle};
+use spade_dcel::operations::{
+    Room, cleanup_isolated_vertex, remove_from_square, remove_from_triangle,
+};
 use std::alloc::{Allocator, Global};
 use std::test::Fail;
 
-/// The name of the call.
-pub const FUNCTION: &str = "remove_from_triangle";
+/// How many words a line has that gives up a vertex with four edges.
+const WORDS_OF_FOUR: usize = 6;
+
+/// Returns the function that the row of a line calls.
+pub fn function(line: &str) -> &'static str {
+    if line.split(' ').count() == WORDS_OF_FOUR {
+        "remove_from_square"
+    } else {
+        "remove_from_triangle"
+    }
+}
 
 /// A border loop in an allocator's memory.
 type BorderLoop<A> = Vec<FixedDirectedEdgeHandle, A>;
@@ -31,7 +43,7 @@ fn given_up<A: Allocator + Copy>(
 }
 
 /// Removes a vertex from a triangle with these requests refused. Returns whether there was memory.
-fn remove<'a>(
+fn remove_from_three<'a>(
     dcel: &mut Watched<'a>,
     memory: Memory<'a>,
     border: &[FixedDirectedEdgeHandle],
@@ -46,6 +58,21 @@ fn remove<'a>(
     Ok(remove_from_triangle(dcel, border, center).is_ok())
 }
 
+/// Removes a vertex from a square with these requests refused. Returns whether there was memory.
+fn remove_from_four<'a>(
+    dcel: &mut Watched<'a>,
+    memory: Memory<'a>,
+    border: &[FixedDirectedEdgeHandle],
+    center: FixedVertexHandle,
+    refusals: Refusals,
+) -> Result<bool, Fail> {
+    require!(
+        dcel.can_remove_from_square(border, center) && dcel.has_room_for(Room::REMOVE_FROM_SQUARE)
+    );
+    memory.refuse(refusals);
+    Ok(remove_from_square(dcel, border, center).is_ok())
+}
+
 /// Makes the call of a row with these requests refused. Returns whether there was memory.
 pub fn make<'a>(
     dcel: &mut Watched<'a>,
@@ -54,7 +81,10 @@ pub fn make<'a>(
     refusals: Refusals,
 ) -> Result<bool, Fail> {
     let (center, border) = given_up(line, memory)?;
-    remove(dcel, memory, &border, center, refusals)
+    match border.len() {
+        4 => remove_from_four(dcel, memory, &border, center, refusals),
+        _ => remove_from_three(dcel, memory, &border, center, refusals),
+    }
 }
 
 /// Gives up the vertex of a row, fills the hole, and takes out its edges and faces.
