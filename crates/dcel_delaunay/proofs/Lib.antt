@@ -5,7 +5,7 @@ pub mod CutOff
 pub mod Distances
 pub mod Emptied
 pub mod Fewer
-pub mod FromTriangle
+pub mod FromRing
 pub mod Gathered
 pub mod Items
 pub mod LineRemoved

@@ -1,5 +1,5 @@
 -- Edges that have to stay, while edges of a vertex without such ones are flipped, given up, and taken out.
-use Rattle.std.proofs.Common.{◌≡◌, ◌≢◌, ◌↔◌, ◌⊎◌, inl, inr, ℕ, ◌+◌, ◌-◌, ◌*◌, ◌/◌, ◌%◌, ◌<◌, ◌≤◌, Bool, true, false, List, [], ◌∷◌, ◌++◌, length, map, filter, slice_index_or, zero, suc, Option, Some, None, Result, Ok, Err, OnOk, IfErr, All, refl, sym, ap, ◌∙◌, subst, slice_get, arith}
+use Rattle.std.proofs.Common.{◌≡◌, ◌≢◌, ◌↔◌, ◌⊎◌, inl, inr, ℕ, ◌+◌, ◌-◌, ◌*◌, ◌/◌, ◌%◌, ◌<◌, ◌≤◌, Bool, true, false, List, [], ◌∷◌, ◌++◌, length, map, filter, slice_index_or, zero, suc, Option, Some, None, All, refl, sym, ap, ◌∙◌, subst, slice_get, arith}
 use Rattle.std.specs.Option.{option_map}
 use Rattle.std.proofs.lemmas.Bool.{cases_Bool, cases_lt, false_from_ne_true, false≢true}
 use Rattle.std.proofs.lemmas.List.{get_or-append-add, get_or_append_left, length-append}
@@ -27,7 +27,6 @@ use Rattle.dcel_predicates.specs.declared.point.Point.{Point}
 use Rattle.dcel_legalize.specs.Flipping.{sides_beside}
 use Rattle.dcel_plane.specs.Plane.{ListsCircled, point_at}
 use Rattle.dcel_plane.proofs.edits.Flipped.{flip_lists}
-use Rattle.dcel_planar.specs.Growing.{IsTriangleMesh}
 use Rattle.dcel_planar.specs.Legalization.{HasToStay, ListsLoose}
 use Rattle.dcel_planar.proofs.Staying.{listed_stays, staying, to_circled}
 use Rattle.dcel_delaunay.specs.Staying.{HasConstraintAt, KeepsOthersStaying, KeepsStaying, LeavesLegal, StaysBetween}
@@ -151,14 +150,6 @@ module _ {DE UE F : Type 0} (stays : UE → Bool) where
 
   pub legal_trans : (l m n : Mesh Point DE UE F) (first due items : List ℕ) → LeavesLegal stays l m first due → LeavesLegal stays m n due items → LeavesLegal stays l n first items
   legal_trans l m n first due items was then = record { triangulated = then.triangulated; listed = λ lists. then.listed (was.listed lists) }
-
-  -- whether a call succeeds, or changes nothing
-  pub legal_either : {A E : Type 0} (r : Result A E) (m n : Mesh Point DE UE F) (first due items : List ℕ) → IsTriangleMesh m → due ≡ first → OnOk r (LeavesLegal stays m n due items)
-      → IfErr r (λ _. (n ≡ m) × (items ≡ due)) → LeavesLegal stays m n first items
-  legal_either (Ok answer) m n first due items sound is then refused = subst (λ (l : List ℕ). LeavesLegal stays m n l items) is then
-  legal_either (Err error) m n first due items sound is then refused =
-      subst (λ (k : Mesh Point DE UE F). LeavesLegal stays m k first items) (sym refused.0)
-      (subst (λ (l : List ℕ). LeavesLegal stays m m first l) (sym (refused.1 ∙ is)) (record { triangulated = sound; listed = λ lists. lists }))
 
   pub keeps_trans : (l m n : Mesh Point DE UE F) → KeepsStaying stays l m → KeepsStaying stays m n → KeepsStaying stays l n
   keeps_trans l m n first then a b = (λ given. (then a b).0 ((first a b).0 given), λ given. (first a b).1 ((then a b).1 given))

@@ -7,12 +7,13 @@ ghost use Rattle.dcel_delaunay.specs.Removing.{FailsToTakeOut, Loses};
 ghost use Rattle.dcel_delaunay.specs.Staying.{HasConstraintAt, KeepsStaying, LosesNoneStaying};
 
 mod around;
+mod border;
 mod cleanup;
 mod corner;
 mod ears;
 mod flips;
-mod hole;
 mod line;
+mod square;
 mod triangle;
 mod triangles;
 

@@ -10,11 +10,11 @@ ghost use Rattle.dcel_delaunay.specs.Thinning.{HasPlaces, ListsAround, with_spok
 
 use crate::free::FreeByDefault;
 use crate::remove::Due;
-use crate::remove::around::list_spokes;
-use crate::remove::cleanup::{drop_given_up, drop_repeated, take_out};
+use crate::remove::border::{Border, border_of};
+use crate::remove::cleanup::{drop_given_up, take_out};
 use crate::remove::corner::cut_off;
 use crate::remove::flips::{thin_corner, thin_out};
-use crate::remove::hole::{Border, border_of, fill};
+use crate::remove::square::take_from_square;
 use crate::remove::triangle::take_from_triangle;
 use crate::removed::Removed;
 use dcel_legalize::EdgeConstraint;
@@ -71,40 +71,8 @@ fn take_thinned<UE: FreeByDefault + Drop, A: Allocator + Clone, L: Allocator>(
 {
     match border_of(dcel, vertex) {
         Border::Triangle(border) => take_from_triangle(dcel, due, &border, vertex),
-        Border::Square(border) => {
-            list_spokes(dcel, due, vertex);
-            take_from_square(dcel, due, &border, vertex)
-        }
+        Border::Square(border) => take_from_square(dcel, due, &border, vertex),
     }
-}
-
-/// Gives up a vertex with four edges, none of which can be flipped any more, fills the hole, and takes
-/// the vertex out.
-///
-/// If memory runs out, nothing is changed.
-fn take_from_square<UE: FreeByDefault + Drop, A: Allocator + Clone, L: Allocator>(
-    dcel: &mut EdgeMesh<UE, A>,
-    due: &mut Due<L>,
-    border: &[FixedDirectedEdgeHandle],
-    vertex: FixedVertexHandle,
-) -> Result<Removed, AllocError>
-    requires sound { IsTriangleMesh dcel.old }
-    requires thin { IsThinnedOut dcel.old vertex }
-    requires border { IsFilled dcel.old vertex border.now }
-    requires four { length border.now ≡ 4 }
-    requires room { HasRoom dcel.old.shape 0 1 2 }
-    ensures loses { IfOk result (Loses dcel.old dcel.new vertex) }
-    ensures sound { OnOk result (LeavesLegal UE.is_constraint dcel.old dcel.new due.old.items due.new.items) }
-    ensures staying { OnOk result (LosesNoneStaying UE.is_constraint dcel.old dcel.new vertex) }
-    ensures hull { OnOk result (IsFlat dcel.new ⊎ HasHull dcel.new) }
-    ensures refused { IfErr result (λ _. (dcel.new ≡ dcel.old) × (due.new.items ≡ due.old.items)) }
-{
-    every_mesh(dcel);
-    let listed = due.len();
-    let mut opened = fill(dcel, due, border, vertex)?;
-    drop_repeated(due, listed);
-    drop_given_up(dcel, due, &opened.edges_to_remove);
-    Ok(take_out(dcel, due, &mut opened, vertex))
 }
 
 /// Flips edges of a vertex on the hull until none can be flipped, cuts it off with its triangles, and

@@ -4,7 +4,7 @@ use Rattle.std.proofs.lemmas.Bool.Decides.{nat_tests}
 use Rattle.dcel_maps.specs.Shapes.{next_of}
 use Rattle.dcel_maps.specs.Walking.{ccw_of}
 use Rattle.dcel_delaunay.proofs.Bordered.{four_filled, three_filled}
-use Rattle.dcel_delaunay.proofs.remove.hole.border_of.Goals as goal
+use Rattle.dcel_delaunay.proofs.remove.border.border_of.Goals as goal
 
 pub returns-then-eq : goal.returns-then-eq
 returns-then-eq g c =

@@ -6,7 +6,7 @@ use Rattle.dcel_plane.specs.Plane.{point_at}
 use Rattle.dcel_plane.specs.removal.Wheels.{MakesTwo}
 use Rattle.dcel_delaunay.proofs.Bordered.{begins_at, begins_three, begins_two, has_anchor}
 use Rattle.dcel_planar.proofs.Searching.{search_begins, search_continues, search_ends}
-use Rattle.dcel_delaunay.proofs.remove.hole.beginning.Goals as goal
+use Rattle.dcel_delaunay.proofs.remove.border.beginning.Goals as goal
 
 pub unreachable-requires : goal.unreachable-requires
 unreachable-requires g c =
