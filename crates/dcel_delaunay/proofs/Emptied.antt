@@ -1,13 +1,11 @@
 -- A vertex inside of triangles given up, and the hole filled: what is left.
-use Rattle.std.proofs.Common.{◌≡◌, ◌≢◌, inl, inr, ℕ, ◌+◌, ◌/◌, ◌<◌, ◌≤◌, Bool, false, List, ◌∷◌, ◌++◌, All, Option, length, reverse, slice_get, slice_index_or, append_assoc, refl, sym, ap, ◌∙◌, subst, arith}
+use Rattle.std.proofs.Common.{◌≡◌, inl, inr, ℕ, ◌+◌, ◌/◌, ◌<◌, ◌≤◌, Bool, false, List, ◌∷◌, ◌++◌, All, Option, length, reverse, slice_get, slice_index_or, refl, sym, ap, ◌∙◌, subst, arith}
 use Rattle.std.specs.Option.{option_map}
-use Rattle.std.proofs.lemmas.Bool.{cases_eq, cases_lt}
+use Rattle.std.proofs.lemmas.Bool.{cases_lt}
 use Rattle.std.proofs.lemmas.List.{get_or_append_left, length-map, length-reverse}
-use Rattle.spade_dcel.specs.declared.operations.results.IsolateVertexResult.{IsolateVertexResult}
-use Rattle.spade_dcel.specs.Opened.{HasFilled}
 use Rattle.dcel_maps.specs.Conditions.{IsTriangle}
-use Rattle.dcel_maps.specs.edits.Fill.{FillsHole, edges_at, faces_at, hole_filled, loop_filled}
-use Rattle.dcel_maps.specs.Removals.{IsListed, Removal, ascending, gives_up_edge, opened, shown}
+use Rattle.dcel_maps.specs.edits.Fill.{edges_at, faces_at, hole_filled, loop_filled}
+use Rattle.dcel_maps.specs.Removals.{Removal, ascending, gives_up_edge, opened, shown}
 use Rattle.dcel_maps.specs.Shapes.{IsLive, IsMesh, Mesh, face_count, face_of}
 use Rattle.dcel_maps.specs.Triangulations.{AllTriangles}
 use Rattle.dcel_maps.specs.Walking.{out_edges_of}
@@ -20,36 +18,24 @@ use Rattle.dcel_maps.proofs.Triangulations.{ring_filled_in}
 use Rattle.dcel_maps.proofs.words.Ascending.{length-ascending}
 use Rattle.dcel_maps.proofs.words.Counts.{count-append}
 use Rattle.dcel_predicates.specs.declared.point.Point.{Point}
-use Rattle.dcel_plane.specs.Edges.{edges_inserted}
 use Rattle.dcel_plane.specs.Plane.{IsCircled, TrianglesTurnLeft, origin_point, point_at}
 use Rattle.dcel_plane.specs.covering.Covering.{IsConvex, IsHull}
 use Rattle.dcel_plane.proofs.removal.Deleting.{by_three, four_plane, hole_convex, hole_hull, hole_lists, three_plane}
 use Rattle.dcel_plane.proofs.removal.Renumbering.{cleanup_inner}
-use Rattle.dcel_plane.proofs.removal.Holes.{IsHole, half_of_triangle, hole_is, side_listed}
+use Rattle.dcel_plane.proofs.removal.Holes.{IsHole, half_of_triangle, hole_is}
 use Rattle.dcel_planar.specs.Growing.{IsTriangleMesh}
 use Rattle.dcel_planar.specs.Legalization.{HasToStay, ListsLoose}
 use Rattle.dcel_planar.proofs.Staying.{listed_stays, staying, to_circled}
-use Rattle.dcel_delaunay.specs.Removing.{IsEmptied, IsFilled, IsGivenUp, IsThinnedOut}
+use Rattle.dcel_delaunay.specs.Removing.{IsEmptied, IsFilled, IsThinnedOut}
 use Rattle.dcel_delaunay.proofs.Staying.{LosesSpokes, loose_after, same_before, spokes_staying, stay_below}
 
 -- the counts of Euler's formula, with k edges and k faces round the vertex
 counts : (v e f vn en fn k a b : ℕ) → v + f ≡ e + 2 → vn ≡ v → en + 3 ≡ e + k → fn + 2 ≡ f + k → a ≡ b → v + fn + a ≡ en + b + 3
 counts v e f vn en fn k a b euler same edges faces equal = omega (arith, euler, edges, faces, equal)
 
--- the result names what the record gives up
-abbrev Named : {A : Type 0} → Removal → IsolateVertexResult A → Type 0
-Named r out = IsListed r out.edges_to_remove.items out.faces_to_remove.items
-
 -- an edge with default data need not stay
 abbrev DefaultIsLoose : {UE : Type 0} → (UE → Type 0) → (UE → Bool) → Type 0
 DefaultIsLoose {UE} is_default stays = (datum : UE) → is_default datum → stays datum ≡ false
-
--- of triangles n and n + 1 the edges are listed
-two_listed : (u : ℕ) (a b : List ℕ) → 0 < count_of u b → 0 < count_of u (a ++ b)
-two_listed u a b found = (let c = count-append u a b in omega (arith, c, found))
-
-one_listed : (u : ℕ) (a b : List ℕ) → 0 < count_of u a → 0 < count_of u (a ++ b)
-one_listed u a b found = (let c = count-append u a b in omega (arith, c, found))
 
 module _ {DE UE F : Type 0} where
   -- where the vertices stand as they did
@@ -84,16 +70,11 @@ module _ {DE UE F : Type 0} where
     many : 3 ≤ length border
     many = filled.round.many
 
-    pub first_new : IsTriangle n.shape (face_count m.shape)
+    first_new : IsTriangle n.shape (face_count m.shape)
     first_new =
         let three = many in
         let live = hole.new_live (face_count m.shape) (omega arith) (let f = hole.faces in omega (arith, f, three)) in
         record { live = live; three = triangles_after (face_count m.shape) mesh.sized.outer live }
-
-    pub second_new : length border ≡ 4 → IsTriangle n.shape (face_count m.shape + 1)
-    second_new four =
-        let live = hole.new_live (face_count m.shape + 1) (omega arith) (let f = hole.faces in omega (arith, f, four)) in
-        record { live = live; three = triangles_after (face_count m.shape + 1) (omega arith) live }
 
     -- edges that stay have their data
     stays_too : (u : ℕ) → HasToStay stays m u → HasToStay stays n u
@@ -115,20 +96,6 @@ module _ {DE UE F : Type 0} where
           | inl there ↦ absurd (is.loose (stays_too u (listed_stays stays m u there)))
           | inr none ↦ omega (arith, found, all, both, wanted, none)
         ]
-
-    four_listed : length border ≡ 4
-        → ListsLoose stays m due → ListsLoose stays n (due ++ (edges_inserted n (face_count m.shape) ++ edges_inserted n (face_count m.shape + 1)))
-    four_listed four =
-        let near = edges_inserted n (face_count m.shape) in
-        let far = edges_inserted n (face_count m.shape + 1) in
-        lists_after (near ++ far) (λ f h past below live on.
-        let counted = hole.faces in
-        elim (cases_eq f (face_count m.shape)) [
-          | inl is ↦ one_listed (h / 2) near far (side_listed n after (face_count m.shape) first_new h live (on ∙ is))
-          | inr not ↦
-              let is : f ≡ face_count m.shape + 1 = omega (arith, past, below, counted, four, not) in
-              two_listed (h / 2) near far (side_listed n after (face_count m.shape + 1) (second_new four) h live (on ∙ is))
-        ])
 
     pub emptied : (list : List ℕ) → (ListsLoose stays m due → ListsLoose stays n list) → LosesSpokes stays m n v → IsEmptied stays m n v due list
     emptied list lists spokes =
@@ -158,14 +125,6 @@ module _ {DE UE F : Type 0} where
           staying = spokes_staying stays m n v spokes;
         }
 
-    -- and the result of a call names what is given up
-    given_up : {A : Type 0} (list : List ℕ) (out : IsolateVertexResult A) → HasFilled m.shape border (edges_at m v) (faces_at m v) out
-        → (ListsLoose stays m due → ListsLoose stays n list) → LosesSpokes stays m n v → IsGivenUp stays m n v due list out
-    given_up list out has lists spokes = record {
-      emptied = emptied list lists spokes;
-      named = subst (λ r. Named r out) (sym hole.removal) (ap ascending has.edges, ap ascending has.faces);
-    }
-
     abbrev given : Removal
     given = opened (edges_at m v) (faces_at m v) v
 
@@ -188,37 +147,3 @@ module _ {DE UE F : Type 0} where
               loose_after stays is_edge default (loop_filled m given (p ∷ q ∷ r ∷ rest) halves edges faces) m.undirected_data edges refl all u
               (let k = mesh.sized.undirected_data in omega (arith, k, past));
         })
-
-  -- the same of the calls, whatever data are put at the new edge and the new faces
-  module _ (stays : UE → Bool) (is_half : DE → Type 0) (is_edge : UE → Type 0) (is_face : F → Type 0) (m new : Mesh Point DE UE F) (mesh : IsMesh m) (due : List ℕ) (sound : IsTriangleMesh m) (v : ℕ)
-      (thin : IsThinnedOut m v) (border : List ℕ) (filled : IsFilled m v border) (fills : FillsHole is_half is_edge is_face border new (hole_filled m v border)) (after : IsMesh new) where
-    done : IsMesh (hole_filled m v border fills.directed_data fills.undirected_data fills.face_data)
-    done = subst (λ (k : Mesh Point DE UE F). IsMesh k) fills.is after
-
-    pub filled_first : (f : ℕ) → f ≡ face_count m.shape → IsTriangle new.shape f
-    filled_first f is =
-        subst (λ (k : Mesh Point DE UE F). IsTriangle k.shape f) (sym fills.is)
-        (subst (λ (i : ℕ). IsTriangle (hole_filled m v border fills.directed_data fills.undirected_data fills.face_data).shape i) (sym is)
-        (first_new stays m mesh due sound v thin border filled fills.directed_data fills.undirected_data fills.face_data done))
-
-    pub filled_second : length border ≡ 4 → (f : ℕ) → f ≡ face_count m.shape + 1 → IsTriangle new.shape f
-    filled_second four f is =
-        subst (λ (k : Mesh Point DE UE F). IsTriangle k.shape f) (sym fills.is)
-        (subst (λ (i : ℕ). IsTriangle (hole_filled m v border fills.directed_data fills.undirected_data fills.face_data).shape i) (sym is)
-        (second_new stays m mesh due sound v thin border filled fills.directed_data fills.undirected_data fills.face_data done four))
-
-    spokes : DefaultIsLoose is_edge stays → LosesSpokes stays m (hole_filled m v border fills.directed_data fills.undirected_data fills.face_data) v
-    spokes default =
-        given_spokes stays m mesh due sound v thin border filled fills.directed_data fills.undirected_data fills.face_data done is_edge default fills.undirected_default
-
-    pub filled_four : {A : Type 0} → DefaultIsLoose is_edge stays → (list : List ℕ) (out : IsolateVertexResult A) (f g : ℕ) → HasFilled m.shape border (edges_at m v) (faces_at m v) out → length border ≡ 4
-        → f ≡ face_count m.shape → g ≡ face_count m.shape + 1 → list ≡ (due ++ edges_inserted new f) ++ edges_inserted new g → IsGivenUp stays m new v due list out
-    filled_four default list out f g has four is is_next listed =
-        let near = edges_inserted new f in
-        let far = edges_inserted new g in
-        let same : (due ++ near) ++ far ≡ due ++ (near ++ far) = simp append_assoc in
-        subst (λ (l : List ℕ). IsGivenUp stays m new v due l out)
-        (sym (listed ∙ same ∙ ap (λ (i : ℕ). due ++ (edges_inserted new i ++ edges_inserted new g)) is ∙ ap (λ (i : ℕ). due ++ (edges_inserted new (face_count m.shape) ++ edges_inserted new i)) is_next))
-        (subst (λ (k : Mesh Point DE UE F). IsGivenUp stays m k v due (due ++ (edges_inserted k (face_count m.shape) ++ edges_inserted k (face_count m.shape + 1))) out) (sym fills.is)
-        (given_up stays m mesh due sound v thin border filled fills.directed_data fills.undirected_data fills.face_data done _ out has
-        (four_listed stays m mesh due sound v thin border filled fills.directed_data fills.undirected_data fills.face_data done four) (spokes default)))

@@ -10,7 +10,6 @@ use Rattle.dcel_maps.proofs.words.Ascending.{any-ascending}
 use Rattle.dcel_maps.proofs.words.Counts.{first_or_later}
 use Rattle.dcel_maps.proofs.words.Mapped.{count-at}
 use Rattle.dcel_predicates.specs.declared.point.Point.{Point}
-use Rattle.dcel_delaunay.specs.Needless.{IsNeedless}
 use Rattle.dcel_delaunay.specs.Removing.{IsEmptied}
 
 -- an item has a place
@@ -39,19 +38,13 @@ KeepsNeeded needed list rest = (u : ℕ) → needed u ≡ true → 0 < count_of 
 
 -- one item goes, and the last one gets its place
 module _ (needed : ℕ → Bool) (list rest : List ℕ) (at x : ℕ) (within : at < length list) (read : x ≡ slice_index_or list at x) (short : length rest + 1 ≡ length list)
-    (needless : IsNeedless needed list at x) (len : ℕ) (many : len ≡ length list) (last : (d : ℕ) → at + 1 < len → slice_index_or rest at d ≡ slice_index_or list (len - 1) d)
+    (needless : needed x ≡ false) (len : ℕ) (many : len ≡ length list) (last : (d : ℕ) → at + 1 < len → slice_index_or rest at d ≡ slice_index_or list (len - 1) d)
     (others : (k d : ℕ) → k ≢ at → k + 1 < len → slice_index_or rest k d ≡ slice_index_or list k d) where
   left_at : (u k : ℕ) → k < length rest → slice_index_or rest k x ≡ u → 0 < count_of u rest
   left_at u k below is = subst (λ (y : ℕ). 0 < count_of y rest) is (count-at rest k x below)
 
   gone : (u : ℕ) → needed u ≡ true → x ≡ u → 0 < count_of u rest
-  gone u live is = elim needless [
-    | inl repeated ↦
-        let early = repeated.earlier in
-        left_at u repeated.before (omega (arith, early, within, short))
-        (others repeated.before x (λ same. omega (arith, same, early)) (omega (arith, early, within, many)) ∙ sym repeated.same ∙ is)
-    | inr given_up ↦ absurd (false≢true (sym given_up ∙ ap needed is ∙ live))
-  ]
+  gone u live is = absurd (false≢true (sym needless ∙ ap needed is ∙ live))
 
   other : (u k : ℕ) → k < length list → k ≢ at → slice_index_or list k x ≡ u → 0 < count_of u rest
   other u k below not is = elim (cases_lt (k + 1) (length list)) [

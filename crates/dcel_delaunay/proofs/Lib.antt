@@ -5,7 +5,7 @@ pub mod CutOff
 pub mod Distances
 pub mod Emptied
 pub mod Fewer
-pub mod FromTriangle
+pub mod FromRing
 pub mod Gathered
 pub mod Items
 pub mod LineRemoved
@@ -14,6 +14,7 @@ pub mod Lost
 pub mod Orders
 pub mod Outline
 pub mod Renaming
+pub mod SameNumbers
 pub mod Standing
 pub mod Staying
 pub mod TakenOut
@@ -21,4 +22,5 @@ pub mod Taking
 pub mod Telling
 pub mod Theorem
 pub mod Thinned
+pub mod ThreeSpokes
 pub mod listing

@@ -1,5 +1,5 @@
 -- An edge of a vertex flipped between two triangles that turn left: what it keeps, and that the vertex has one edge less.
-use Rattle.std.proofs.Common.{◌≡◌, ◌⊎◌, inl, inr, ℕ, ◌+◌, ◌*◌, ◌/◌, ◌<◌, Bool, IsTrue, ◌↔◌, List, [], ◌∷◌, ◌++◌, length, slice_set, refl, sym, ap, ◌∙◌, subst, arith}
+use Rattle.std.proofs.Common.{◌≡◌, ◌≢◌, ◌⊎◌, inl, inr, ℕ, ◌+◌, ◌*◌, ◌/◌, ◌<◌, Bool, IsTrue, ◌↔◌, List, [], ◌∷◌, ◌++◌, length, map, slice_set, refl, sym, ap, ◌∙◌, subst, arith}
 use Rattle.std.proofs.lemmas.Bool.{cases_eq, cases_lt}
 use Rattle.std.proofs.lemmas.List.{length-set}
 use Rattle.dcel_fixed.proofs.Halves.{rev-double}
@@ -13,7 +13,9 @@ use Rattle.dcel_maps.proofs.edits.Around.{at_edge}
 use Rattle.dcel_maps.proofs.edits.Flips.{at_flip, flipped_mesh}
 use Rattle.dcel_maps.proofs.Triangulations.{flipped}
 use Rattle.dcel_maps.proofs.walks.Turning.{mesh-out_edges}
-use Rattle.dcel_maps.proofs.words.Counts.{count-append, first_or_later}
+use Rattle.dcel_maps.proofs.words.Counts.{count-append, count-equal, first_or_later}
+use Rattle.dcel_maps.proofs.words.EachSet.{other-two_set}
+use Rattle.dcel_maps.proofs.words.Mapped.{count-mapped, mapped_from}
 use Rattle.dcel_predicates.specs.declared.point.Point.{Point}
 use Rattle.dcel_legalize.specs.Flipping.{sides_beside}
 use Rattle.dcel_planar.proofs.Circled.{inner_from}
@@ -24,10 +26,10 @@ use Rattle.dcel_plane.proofs.removal.Fewer.{flip_keeps_inner, flip_takes_one}
 use Rattle.dcel_plane.proofs.removal.FlippedInside.{outer_start, outer_stays}
 use Rattle.dcel_plane.proofs.removal.Turnable.{turn_keeps_plane}
 use Rattle.dcel_planar.specs.Corners.{StartsOutside}
-use Rattle.dcel_planar.specs.Growing.{HasHull, IsTriangleMesh, Keeps}
+use Rattle.dcel_planar.specs.Growing.{HasHull, IsTriangleMesh}
 use Rattle.dcel_delaunay.specs.Removing.{IsInnerVertex, IsTurnable}
 use Rattle.dcel_delaunay.specs.Staying.{HasConstraintAt, LeavesLegal}
-use Rattle.dcel_delaunay.specs.Thinning.{IsThinned, ListsAround}
+use Rattle.dcel_delaunay.specs.Thinning.{IsThinned, IsThinning, ListsAround, with_spokes}
 use Rattle.dcel_delaunay.proofs.Around.{far_listed, near_listed, still_around}
 use Rattle.dcel_planar.proofs.Counting.{flipped_joined}
 use Rattle.dcel_planar.proofs.Growth.{flipped-keeps, keeps-trans}
@@ -77,6 +79,10 @@ either_among list a b first second k there = elim (cases_lt 0 (count_of k a)) [
 ]
 
 module _ {DE UE F : Type 0} where
+  -- half edges of other edges start where they did
+  starts_still : (m : Mesh Point DE UE F) (u h : ℕ) → h / 2 ≢ u → origin_of (edge_flipped m u).shape h ≡ origin_of m.shape h
+  starts_still m u h other = other-two_set m.shape.origins (2 * u) (2 * u + 1) _ _ 0 h (λ is. other (omega (arith, is))) (λ is. other (omega (arith, is)))
+
   module _ (m : Mesh Point DE UE F) (mesh : IsMesh m) (e : ℕ) (turn : CanFlipInPlane (point_at m) m.shape (e / 2)) where
     abbrev n : Mesh Point DE UE F
     n = edge_flipped m (e / 2)
@@ -157,53 +163,137 @@ module _ {DE UE F : Type 0} where
         omega (arith, less)
 
 module _ {DE UE F : Type 0} (stays : UE → Bool) where
-  pub thin_begins : (m : Mesh Point DE UE F) (v : ℕ) (list : List ℕ) → IsMesh m → IsTriangleMesh m → HasHull m → v < m.shape.vertices → ¬ HasConstraintAt stays m v → ListsAround m.shape v list → IsThinned stays m m v list
-  thin_begins m v list mesh sound has below loose around = record {
+  pub thin_begins : (m : Mesh Point DE UE F) (v : ℕ) (first list : List ℕ) → IsMesh m → IsTriangleMesh m → HasHull m → v < m.shape.vertices → ¬ HasConstraintAt stays m v
+      → ((u : ℕ) → 0 < count_of u first → 0 < count_of u list) → IsThinned stays m m v first list
+  thin_begins m v first list mesh sound has below loose more = record {
     mesh = mesh;
     below = below;
     keeps = record { closed = sound.closed; vertices = refl; points = refl; edges = omega arith };
     edges = refl;
-    sound = record { triangulated = sound; listed = λ lists. lists };
+    sound = record { triangulated = sound; listed = λ lists u is. more u (lists u is) };
     hull = has;
     inside = λ is. is;
     outside = λ h is. is;
     staying = λ a b. (λ is. is, λ is. is);
     loose = loose;
+  }
+
+  pub thinning_begins : (m : Mesh Point DE UE F) (v : ℕ) (due : List ℕ) → IsMesh m → IsTriangleMesh m → HasHull m → v < m.shape.vertices → ¬ HasConstraintAt stays m v
+      → ListsAround m.shape v (with_spokes m v due) → IsThinning stays m m v (with_spokes m v due) due
+  thinning_begins m v due mesh sound has below loose around = record {
+    thinned = thin_begins m v (with_spokes m v due) (with_spokes m v due) mesh sound has below loose (λ u there. there);
     around = around;
   }
 
-  module _ (m n : Mesh Point DE UE F) (v : ℕ) (list : List ℕ) (way : IsThinned stays m n v list) where
-    at_half : (e : ℕ) → IsOutEdge n.shape v e → CanFlipInPlane (point_at n) n.shape (e / 2) → IsThinned stays m (edge_flipped n (e / 2)) v list
+  -- one after another
+  pub thin_trans : (l m n : Mesh Point DE UE F) (v : ℕ) (first due list : List ℕ) → IsThinned stays l m v first due → IsThinned stays m n v due list → IsThinned stays l n v first list
+  thin_trans l m n v first due list was then = record {
+    mesh = then.mesh;
+    below = then.below;
+    keeps = keeps-trans l m n was.keeps then.keeps;
+    edges = then.edges ∙ was.edges;
+    sound = legal_trans stays l m n first due list was.sound then.sound;
+    hull = then.hull;
+    inside = λ is. then.inside (was.inside is);
+    outside = λ h is. then.outside h (was.outside h is);
+    staying = keeps_trans stays l m n was.staying then.staying;
+    loose = then.loose;
+  }
+
+  -- if the list at the end has more
+  pub thin_more : (m n : Mesh Point DE UE F) (v : ℕ) (first list more : List ℕ) → ((u : ℕ) → 0 < count_of u list → 0 < count_of u more)
+      → IsThinned stays m n v first list → IsThinned stays m n v first more
+  thin_more m n v first list more has was = record {
+    mesh = was.mesh;
+    below = was.below;
+    keeps = was.keeps;
+    edges = was.edges;
+    sound = record { triangulated = was.sound.triangulated; listed = λ lists u is. has u (was.sound.listed lists u is) };
+    hull = was.hull;
+    inside = was.inside;
+    outside = was.outside;
+    staying = was.staying;
+    loose = was.loose;
+  }
+
+  pub thinning_after : (l m n : Mesh Point DE UE F) (v : ℕ) (first due list : List ℕ) → IsThinned stays l m v first due → IsThinning stays m n v due list → IsThinning stays l n v first list
+  thinning_after l m n v first due list was then = record {
+    thinned = thin_trans l m n v first due (with_spokes n v list) was then.thinned;
+    around = then.around;
+  }
+
+  -- where more is listed, but no edge of v
+  pub thin_listed : (m : Mesh Point DE UE F) (v : ℕ) (first due : List ℕ) → IsMesh m → IsTriangleMesh m → HasHull m → v < m.shape.vertices → ¬ HasConstraintAt stays m v
+      → ((u : ℕ) → 0 < count_of u first → 0 < count_of u due) → IsThinned stays m m v first (with_spokes m v due)
+  thin_listed m v first due mesh sound has below loose more =
+      thin_begins m v first (with_spokes m v due) mesh sound has below loose
+      (λ u there. let c = count-append u due (map (λ h. h / 2) (out_edges_of m v)) in let found = more u there in omega (arith, c, found))
+
+  module _ (m n : Mesh Point DE UE F) (v : ℕ) (first due : List ℕ) (way : IsThinning stays m n v first due) where
+    abbrev list : List ℕ
+    list = with_spokes n v due
+
+    at_half : (e : ℕ) → IsOutEdge n.shape v e → CanFlipInPlane (point_at n) n.shape (e / 2) → IsThinned stays n (edge_flipped n (e / 2)) v list list
     at_half e out turn = record {
-      mesh = flipped_mesh n (e / 2) way.mesh turn.can;
-      below = way.below;
-      keeps = keeps-trans m n (edge_flipped n (e / 2)) way.keeps (flipped-keeps n way.sound.closed (e / 2));
-      edges = way.edges;
-      sound = legal_trans stays m n (edge_flipped n (e / 2)) list list list way.sound (half_sound n way.mesh e turn v out.start list way.around stays way.sound.triangulated);
-      hull = half_hull n way.mesh e turn way.hull;
-      inside = λ inside. half_inside n way.mesh e turn v (way.inside inside);
-      outside = λ h is. half_outside n way.mesh e turn v h (way.outside h is);
-      staying = keeps_trans stays m n (edge_flipped n (e / 2)) way.staying (flip_staying stays n (e / 2) (λ stay. way.loose (e, out, stay)));
-      loose = flip_loose stays n (e / 2) (λ stay. way.loose (e, out, stay)) v way.loose;
-      around = half_around n way.mesh e turn v out.start list way.around;
+      mesh = flipped_mesh n (e / 2) way.thinned.mesh turn.can;
+      below = way.thinned.below;
+      keeps = flipped-keeps n way.thinned.sound.closed (e / 2);
+      edges = refl;
+      sound = half_sound n way.thinned.mesh e turn v out.start list way.around stays way.thinned.sound.triangulated;
+      hull = half_hull n way.thinned.mesh e turn way.thinned.hull;
+      inside = λ inside. half_inside n way.thinned.mesh e turn v inside;
+      outside = λ h is. half_outside n way.thinned.mesh e turn v h is;
+      staying = flip_staying stays n (e / 2) (λ stay. way.thinned.loose (e, out, stay));
+      loose = flip_loose stays n (e / 2) (λ stay. way.thinned.loose (e, out, stay)) v way.thinned.loose;
     }
 
+    -- what is listed, or an edge of v, is so after the flip, once the flipped edge is listed
+    still_listed : (u : ℕ) → CanFlip n.shape u → (k : ℕ) → 0 < count_of k (with_spokes n v due) → 0 < count_of k (with_spokes (edge_flipped n u) v (due ++ u ∷ []))
+    still_listed u can k there =
+        let after = edge_flipped n u in
+        let own = map (λ h. h / 2) (out_edges_of after v) in
+        let whole = count-append k (due ++ u ∷ []) own in
+        let front = count-append k due (u ∷ []) in
+        let was = count-append k due (map (λ h. h / 2) (out_edges_of n v)) in
+        elim (cases_eq k u) [
+          | inl same ↦ (let c = count-equal k u [] same in omega (arith, c, whole, front))
+          | inr other ↦ elim (cases_lt 0 (count_of k due)) [
+            | inl in_due ↦ omega (arith, in_due, whole, front)
+            | inr not ↦
+                (let (h, found, is) = mapped_from (λ h. h / 2) (out_edges_of n v) k (omega (arith, not, was, there)) in
+                let out = (mesh-out_edges way.thinned.mesh v way.thinned.below).no_other h found in
+                let off : h / 2 ≢ u = λ here. other (sym is ∙ here) in
+                let once = (mesh-out_edges (flipped_mesh n u way.thinned.mesh can) v way.thinned.below).each h (record { live = out.live; start = starts_still n u h off ∙ out.start }) in
+                let there_too = count-mapped (λ h. h / 2) (out_edges_of after v) h (omega (arith, once)) in
+                let own_too : 0 < count_of k own = subst (λ (x : ℕ). 0 < count_of x own) is there_too in
+                omega (arith, own_too, whole))
+          ]
+        ]
+
     module _ (u : ℕ) (turn : IsTurnable n v u) where
-      pub thins : IsThinned stays m (edge_flipped n u) v list
-      thins =
-          let can = subst (λ (k : ℕ). CanFlipInPlane (point_at n) n.shape k) (sym turn.is) turn.can in
-          subst (λ (k : ℕ). IsThinned stays m (edge_flipped n k) v list) turn.is (at_half turn.half turn.out can)
+      can : CanFlipInPlane (point_at n) n.shape (turn.half / 2)
+      can = subst (λ (k : ℕ). CanFlipInPlane (point_at n) n.shape k) (sym turn.is) turn.can
+
+      stays_around : ListsAround (edge_flipped n u).shape v list
+      stays_around = subst (λ (k : ℕ). ListsAround (edge_flipped n k).shape v list) turn.is (half_around n way.thinned.mesh turn.half can v turn.out.start list way.around)
+
+      thinned_more : IsThinned stays n (edge_flipped n u) v list list
+      thinned_more = subst (λ (k : ℕ). IsThinned stays n (edge_flipped n k) v list list) turn.is (at_half turn.half turn.out can)
+
+      pub thins : (after : Mesh Point DE UE F) (more : List ℕ) → after ≡ edge_flipped n u → more ≡ due ++ u ∷ [] → IsThinning stays m after v first more
+      thins after more is listed =
+          let now = edge_flipped n u in
+          let all = with_spokes now v (due ++ u ∷ []) in
+          let keeps = still_listed u turn.can.can in
+          subst (λ (x : Mesh Point DE UE F). IsThinning stays m x v first more) (sym is)
+          (subst (λ (l : List ℕ). IsThinning stays m now v first l) (sym listed)
+          (record {
+            thinned = thin_more m now v first list all keeps (thin_trans m n now v first list list way.thinned thinned_more);
+            around = λ h k live from inner live_k on. keeps (k / 2) (stays_around h k live from inner live_k on);
+          }))
 
       pub one_less : (after : Mesh Point DE UE F) → after ≡ edge_flipped n u → length (out_edges_of after v) < length (out_edges_of n v)
       one_less after is =
-          let can = subst (λ (k : ℕ). CanFlipInPlane (point_at n) n.shape k) (sym turn.is) turn.can in
           subst (λ (k : Mesh Point DE UE F). length (out_edges_of k v) < length (out_edges_of n v)) (sym is)
           (subst (λ (k : ℕ). length (out_edges_of (edge_flipped n k) v) < length (out_edges_of n v)) turn.is
-          (half_less n way.mesh turn.half can v way.below turn.out.start))
-
-  -- a list that has more
-  pub listed_more : (m n : Mesh Point DE UE F) (first list : List ℕ) → ((u : ℕ) → 0 < count_of u first → 0 < count_of u list) → LeavesLegal stays m n list list → LeavesLegal stays m n first list
-  listed_more m n first list more sound = record { triangulated = sound.triangulated; listed = λ lists. sound.listed (λ u is. more u (lists u is)) }
-
-  pub listed_only : (m : Mesh Point DE UE F) (first list : List ℕ) → IsTriangleMesh m → ((u : ℕ) → 0 < count_of u first → 0 < count_of u list) → LeavesLegal stays m m first list
-  listed_only m first list sound more = record { triangulated = sound; listed = λ lists u is. more u (lists u is) }
+          (half_less n way.thinned.mesh turn.half can v way.thinned.below turn.out.start))

@@ -2,7 +2,6 @@ pub mod Bulk
 pub mod Keys
 pub mod Listing
 pub mod Lists
-pub mod Needless
 pub mod Removing
 pub mod Staying
 pub mod Thinning

@@ -26,8 +26,8 @@ use Rattle.dcel_planar.specs.declared.planar.PlanarMesh.{PlanarMesh}
 use Rattle.dcel_delaunay.specs.Staying.{KeepsOthersStaying}
 use Rattle.dcel_delaunay.specs.declared.errors.RemovalError.{RemovalError}
 use Rattle.dcel_delaunay.specs.declared.errors.RemovalError.TheVariants.{NoVertex, OutOfMemory, TooManyPoints, Unfinished}
-use Rattle.dcel_delaunay.specs.declared.remove.hole.Border.{Border}
-use Rattle.dcel_delaunay.specs.declared.remove.hole.Border.TheVariants.{Triangle, Square}
+use Rattle.dcel_delaunay.specs.declared.remove.border.Border.{Border}
+use Rattle.dcel_delaunay.specs.declared.remove.border.Border.TheVariants.{Triangle, Square}
 use Rattle.dcel_delaunay.specs.declared.removed.Removed.{Removed}
 
 -- no out edge of the vertex v lies on the outer face

@@ -6,12 +6,14 @@ ghost use Rattle.dcel_planar.specs.Legalization.{ListsLoose};
 ghost use Rattle.dcel_delaunay.specs.Removing.{FailsToTakeOut, Loses};
 ghost use Rattle.dcel_delaunay.specs.Staying.{HasConstraintAt, KeepsStaying, LosesNoneStaying};
 
+mod around;
+mod border;
 mod cleanup;
 mod corner;
 mod ears;
 mod flips;
-mod hole;
 mod line;
+mod square;
 mod triangle;
 mod triangles;
 

@@ -8,7 +8,6 @@ ghost use Rattle.dcel_maps.specs.Renumbered.{new_edge};
 ghost use Rattle.dcel_maps.specs.Renumbering.{cleaned, cleaned_up, new_number, vertex_taken_out};
 ghost use Rattle.dcel_maps.specs.Shapes.{IsMesh, edge_is_live};
 ghost use Rattle.dcel_maps.specs.Words.{count_of};
-ghost use Rattle.dcel_delaunay.specs.Needless.{IsRepeated};
 
 use crate::remove::Due;
 use crate::removed::Removed;
@@ -49,38 +48,6 @@ pub(crate) fn take_out<UE: Drop, A: Allocator, L: Allocator, B: Allocator>(
     }
 }
 
-/// Drops edges from a list, from a place on, that it has before too.
-pub(crate) fn drop_repeated<L: Allocator>(due: &mut Due<L>, place: usize)
-    ensures { (u : ℕ) → 0 < count_of u due.old.items → 0 < count_of u due.new.items }
-{
-    let mut at = place;
-    while at < due.len() {
-        let edge = due[at];
-        if is_repeated(due, at, edge) {
-            let _edge = due.swap_remove(at);
-        } else {
-            at += 1;
-        }
-    }
-}
-
-/// Returns whether a list has an edge before this place.
-fn is_repeated(
-    due: &[FixedUndirectedEdgeHandle],
-    at: usize,
-    edge: FixedUndirectedEdgeHandle,
-) -> bool
-    requires { at < length due.now }
-    ensures { IsTrue result → IsRepeated due.now at edge }
-{
-    for before in 0..at {
-        if due[before] == edge {
-            return true;
-        }
-    }
-    false
-}
-
 /// Drops edges from a list that are given up, which are those of the other list.
 pub(crate) fn drop_given_up<UE, A: Allocator, L: Allocator>(
     dcel: &EdgeMesh<UE, A>,
@@ -113,7 +80,7 @@ fn drop_dead<UE, A: Allocator, L: Allocator>(dcel: &EdgeMesh<UE, A>, due: &mut D
 }
 
 /// Drops edges from a list, those of the other list.
-pub(crate) fn drop_each<L: Allocator>(due: &mut Due<L>, gone: &[FixedUndirectedEdgeHandle])
+fn drop_each<L: Allocator>(due: &mut Due<L>, gone: &[FixedUndirectedEdgeHandle])
     ensures { (u : ℕ) → list_any (λ e. e == u) gone.now ≡ false → 0 < count_of u due.old.items → 0 < count_of u due.new.items }
 {
     let mut at = 0;

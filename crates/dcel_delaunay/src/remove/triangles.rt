@@ -1,18 +1,20 @@
 //! A vertex of triangles removed: its place filled or left to the outer face.
 
-ghost use Rattle.std.specs.Prelude.{◌≡◌, ◌⊎◌, ◌<◌, IfErr, IfOk, OnErr, OnOk, length};
+ghost use Rattle.std.specs.Prelude.{◌≡◌, ◌⊎◌, ◌<◌, IfErr, IfOk, OnErr, OnOk, length, vec_capacity, vec_len};
 ghost use Rattle.dcel_maps.specs.Conditions.{HasRoom};
 ghost use Rattle.dcel_planar.specs.Corners.{StartsOutside};
 ghost use Rattle.dcel_planar.specs.Growing.{HasHull, IsFlat, IsTriangleMesh, Keeps};
 ghost use Rattle.dcel_delaunay.specs.Removing.{IsFilled, IsInnerVertex, IsThinnedOut, Loses};
 ghost use Rattle.dcel_delaunay.specs.Staying.{HasConstraintAt, KeepsStaying, LeavesLegal, LosesNoneStaying};
+ghost use Rattle.dcel_delaunay.specs.Thinning.{HasPlaces, ListsAround, with_spokes};
 
 use crate::free::FreeByDefault;
 use crate::remove::Due;
-use crate::remove::cleanup::{drop_given_up, drop_repeated, take_out};
+use crate::remove::border::{Border, border_of};
+use crate::remove::cleanup::{drop_given_up, take_out};
 use crate::remove::corner::cut_off;
-use crate::remove::flips::thin_out;
-use crate::remove::hole::{Border, border_of, fill};
+use crate::remove::flips::{thin_corner, thin_out};
+use crate::remove::square::take_from_square;
 use crate::remove::triangle::take_from_triangle;
 use crate::removed::Removed;
 use dcel_legalize::EdgeConstraint;
@@ -43,14 +45,14 @@ pub(crate) fn cut_out<UE: FreeByDefault + Drop, A: Allocator + Clone, L: Allocat
     ensures hull { IsFlat dcel.new ⊎ HasHull dcel.new }
 {
     every_mesh(dcel);
-    thin_out(dcel, due, vertex, false)?;
+    thin_out(dcel, due, vertex)?;
     let removed = take_thinned(dcel, due, vertex)?;
     Ok(removed)
 }
 
-/// Takes out a vertex inside of triangles, none of whose edges can be flipped any more.
+/// Takes out a vertex inside of triangles, none of whose edges can be flipped any more, nor is listed.
 ///
-/// If memory runs out, nothing is changed.
+/// If memory runs out, the edges of the vertex are listed.
 fn take_thinned<UE: FreeByDefault + Drop, A: Allocator + Clone, L: Allocator>(
     dcel: &mut EdgeMesh<UE, A>,
     due: &mut Due<L>,
@@ -59,45 +61,18 @@ fn take_thinned<UE: FreeByDefault + Drop, A: Allocator + Clone, L: Allocator>(
     requires sound { IsTriangleMesh dcel.old }
     requires thin { IsThinnedOut dcel.old vertex }
     requires room { HasRoom dcel.old.shape 0 1 2 }
+    requires around { ListsAround dcel.old.shape vertex (with_spokes dcel.old vertex due.old.items) }
+    requires places { HasPlaces dcel.old vertex (vec_len due.old) (vec_capacity due.old) }
     ensures loses { IfOk result (Loses dcel.old dcel.new vertex) }
-    ensures sound { OnOk result (LeavesLegal UE.is_constraint dcel.old dcel.new due.old.items due.new.items) }
+    ensures sound { LeavesLegal UE.is_constraint dcel.old dcel.new (with_spokes dcel.old vertex due.old.items) due.new.items }
     ensures staying { OnOk result (LosesNoneStaying UE.is_constraint dcel.old dcel.new vertex) }
     ensures hull { OnOk result (IsFlat dcel.new ⊎ HasHull dcel.new) }
-    ensures refused { IfErr result (λ _. (dcel.new ≡ dcel.old) × (due.new.items ≡ due.old.items)) }
+    ensures refused { OnErr result (dcel.new ≡ dcel.old) }
 {
     match border_of(dcel, vertex) {
         Border::Triangle(border) => take_from_triangle(dcel, due, &border, vertex),
         Border::Square(border) => take_from_square(dcel, due, &border, vertex),
     }
-}
-
-/// Gives up a vertex with four edges, none of which can be flipped any more, fills the hole, and takes
-/// the vertex out.
-///
-/// If memory runs out, nothing is changed.
-fn take_from_square<UE: FreeByDefault + Drop, A: Allocator + Clone, L: Allocator>(
-    dcel: &mut EdgeMesh<UE, A>,
-    due: &mut Due<L>,
-    border: &[FixedDirectedEdgeHandle],
-    vertex: FixedVertexHandle,
-) -> Result<Removed, AllocError>
-    requires sound { IsTriangleMesh dcel.old }
-    requires thin { IsThinnedOut dcel.old vertex }
-    requires border { IsFilled dcel.old vertex border.now }
-    requires four { length border.now ≡ 4 }
-    requires room { HasRoom dcel.old.shape 0 1 2 }
-    ensures loses { IfOk result (Loses dcel.old dcel.new vertex) }
-    ensures sound { OnOk result (LeavesLegal UE.is_constraint dcel.old dcel.new due.old.items due.new.items) }
-    ensures staying { OnOk result (LosesNoneStaying UE.is_constraint dcel.old dcel.new vertex) }
-    ensures hull { OnOk result (IsFlat dcel.new ⊎ HasHull dcel.new) }
-    ensures refused { IfErr result (λ _. (dcel.new ≡ dcel.old) × (due.new.items ≡ due.old.items)) }
-{
-    every_mesh(dcel);
-    let listed = due.len();
-    let mut opened = fill(dcel, due, border, vertex)?;
-    drop_repeated(due, listed);
-    drop_given_up(dcel, due, &opened.edges_to_remove);
-    Ok(take_out(dcel, due, &mut opened, vertex))
 }
 
 /// Flips edges of a vertex on the hull until none can be flipped, cuts it off with its triangles, and
@@ -122,7 +97,7 @@ pub(crate) fn cut_out_corner<UE: EdgeConstraint + Drop, A: Allocator + Clone, L:
     ensures hull { IsFlat dcel.new ⊎ HasHull dcel.new }
 {
     every_mesh(dcel);
-    thin_out(dcel, due, vertex, true)?;
+    thin_corner(dcel, due, vertex)?;
     let mut opened = cut_off(dcel, due, outside, vertex)?;
     drop_given_up(dcel, due, &opened.edges_to_remove);
     Ok(take_out(dcel, due, &mut opened, vertex))

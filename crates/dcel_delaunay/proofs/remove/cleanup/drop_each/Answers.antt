@@ -1,4 +1,4 @@
-use Rattle.std.proofs.Common.{◌==◌, ap, inr, not, sym, ◌∙◌, arith, vec_len}
+use Rattle.std.proofs.Common.{◌==◌, ap, not, sym, ◌∙◌, arith, vec_len}
 use Rattle.std.specs.List.{list_any}
 use Rattle.dcel_delaunay.proofs.Fewer.{needed_stay}
 use Rattle.dcel_delaunay.proofs.remove.cleanup.drop_each.Goals as goal
@@ -13,7 +13,7 @@ loop-at-preserved-then-contains g c =
     let by_index = c.swap_remove-edge.ensures.by_index in
     λ u live there.
     needed_stay (λ u. not (list_any (λ e. e == u) c.args.gone.now)) list.items rest.items c.loop-at.at c.index.result.now (omega (arith, c.loop-at-test.true, c.len.ensures, list.ok)) c.index.ensures
-    (omega (arith, c.swap_remove-edge.ensures.len, list.ok, rest.ok)) (inr (ap not (sym c.contains.ensures.value ∙ c.if-contains.true))) (vec_len list)
+    (omega (arith, c.swap_remove-edge.ensures.len, list.ok, rest.ok)) (ap not (sym c.contains.ensures.value ∙ c.if-contains.true)) (vec_len list)
     (omega (arith, list.ok)) by_index.0 by_index.1 u live (c.loop-at.invariant u live there)
 
 pub returns : goal.returns

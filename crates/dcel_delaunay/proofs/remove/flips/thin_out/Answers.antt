@@ -1,27 +1,32 @@
-use Rattle.std.proofs.Common.{arith}
-use Rattle.dcel_planar.proofs.Growth.{keeps-trans}
-use Rattle.dcel_delaunay.proofs.Staying.{keeps_trans, legal_trans}
-use Rattle.dcel_delaunay.proofs.Thinned.{listed_more, listed_only}
+use Rattle.dcel_planar.proofs.Whole.{on_err}
+use Rattle.dcel_delaunay.proofs.Thinned.{thin_begins, thin_listed, thinning_after}
+use Rattle.dcel_delaunay.specs.Thinning.{with_spokes}
 use Rattle.dcel_delaunay.proofs.remove.flips.thin_out.Goals as goal
 
-pub returns-in_err-list_around-clause-sound : goal.returns-in_err-list_around-clause-sound
-returns-in_err-list_around-clause-sound g c = listed_only _ c.args.dcel.now _ _ c.requires.sound c.list_around.ensures.keeps
+pub returns-in_err-list_link-clause-refused : goal.returns-in_err-list_link-clause-refused
+returns-in_err-list_link-clause-refused g c =
+    on_err c.from_residual.result _
+    (thin_begins _ c.args.dcel.now c.args.vertex _ _ c.every_mesh.ensures c.requires.sound c.requires.hull c.requires.vertex c.requires.loose c.list_link.ensures.keeps)
 
-pub returns-clause-sound : goal.returns-clause-sound
-returns-clause-sound g c =
-    let list = c.list_around.new.due.items in
-    listed_more _ c.args.dcel.now c.cut_others.new.dcel _ list c.list_around.ensures.keeps
-    (legal_trans _ c.args.dcel.now c.cut_ears.new.dcel c.cut_others.new.dcel list list list c.cut_ears.ensures.thinned.sound c.cut_others.ensures.thinned.sound)
+pub has_three-requires-clause-inside : goal.has_three-requires-clause-inside
+has_three-requires-clause-inside g c = c.cut_ears.ensures.thinning.thinned.inside c.requires.inside
 
-pub returns-clause-keeps : goal.returns-clause-keeps
-returns-clause-keeps g c = keeps-trans c.args.dcel.now c.cut_ears.new.dcel c.cut_others.new.dcel c.cut_ears.ensures.thinned.keeps c.cut_others.ensures.thinned.keeps
+pub returns-then-has_three-clause-thinning : goal.returns-then-has_three-clause-thinning
+returns-then-has_three-clause-thinning g c =
+    let m = c.args.dcel.now in
+    let listed = c.list_link.new.due.items in
+    thinning_after _ m m c.cut_ears.new.dcel c.args.vertex c.args.due.now.items (with_spokes m c.args.vertex listed) c.cut_ears.new.due.items
+    (thin_listed _ m c.args.vertex c.args.due.now.items listed c.every_mesh.ensures c.requires.sound c.requires.hull c.requires.vertex c.requires.loose c.list_link.ensures.keeps)
+    c.cut_ears.ensures.thinning
 
-pub returns-clause-staying : goal.returns-clause-staying
-returns-clause-staying g c =
-    keeps_trans _ c.args.dcel.now c.cut_ears.new.dcel c.cut_others.new.dcel c.cut_ears.ensures.thinned.staying c.cut_others.ensures.thinned.staying
-
-pub returns-clause-inside : goal.returns-clause-inside
-returns-clause-inside g c = λ inside. c.cut_others.ensures.thinned.inside (c.cut_ears.ensures.thinned.inside inside)
-
-pub returns-clause-outside : goal.returns-clause-outside
-returns-clause-outside g c = λ h is. c.cut_others.ensures.thinned.outside h (c.cut_ears.ensures.thinned.outside h is)
+pub returns-clause-thinning : goal.returns-clause-thinning
+returns-clause-thinning g c =
+    let m = c.args.dcel.now in
+    let mid = c.cut_ears.new.dcel in
+    let listed = c.list_link.new.due.items in
+    let ears =
+    thinning_after _ m m mid c.args.vertex c.args.due.now.items (with_spokes m c.args.vertex listed) c.cut_ears.new.due.items
+    (thin_listed _ m c.args.vertex c.args.due.now.items listed c.every_mesh.ensures c.requires.sound c.requires.hull c.requires.vertex c.requires.loose c.list_link.ensures.keeps)
+    c.cut_ears.ensures.thinning in
+    thinning_after _ m mid c.cut_others.new.dcel c.args.vertex c.args.due.now.items (with_spokes mid c.args.vertex c.cut_ears.new.due.items) c.cut_others.new.due.items
+    ears.thinned c.cut_others.ensures.thinning
