@@ -1,7 +1,8 @@
 //! On which side of a circle a point is.
 
-ghost use Rattle.std.specs.Prelude.{◌≡◌, ◌<ℤ◌, ◌↔◌, IsTrue, pos};
+ghost use Rattle.std.specs.Prelude.{◌≡◌, ◌-ℤ◌, ◌*ℤ◌, ◌<ℤ◌, ◌↔◌, IsTrue, pos};
 ghost use Rattle.dcel_predicates.specs.Determinants.{incircle_of, orient2d_of};
+ghost use Rattle.dcel_predicates.specs.Steps.{cross_of, dot_of};
 ghost use Rattle.dcel_predicates.specs.Wide.{number_of};
 
 use crate::angle::{Angle, WideAngle};
@@ -47,6 +48,7 @@ pub fn in_circle(a: Point, b: Point, c: Point, d: Point) -> bool
 ///
 /// Asks for a triangle that turns left: [`orientation`](crate::orientation) of its corners is
 /// [`Side::Left`](crate::Side::Left).
+#[inline(always)]
 pub fn in_circle_across(a: Point, b: Point, c: Point, d: Point) -> bool
     requires { pos 0 <ℤ orient2d_of a b c }
     ensures { IsTrue result ↔ (pos 0 <ℤ incircle_of a b c d) }
@@ -58,8 +60,19 @@ pub fn in_circle_across(a: Point, b: Point, c: Point, d: Point) -> bool
     if are_narrow(p, q, r, s) {
         Angle::between(r, s).exceeds(Angle::between(p, q))
     } else {
-        WideAngle::between(r, s).exceeds(WideAngle::between(p, q))
+        exceeds_widely(r, s, p, q)
     }
+}
+
+// Returns whether the angle from one step to another exceeds that of two others by less than 180
+// degrees.
+//
+// It isn't compiled into its caller, where few steps are this wide, so that this takes few registers.
+#[inline(never)]
+fn exceeds_widely(r: Step, s: Step, p: Step, q: Step) -> bool
+    ensures { IsTrue result ↔ (pos 0 <ℤ ((cross_of r.x r.y s.x s.y *ℤ dot_of p.x p.y q.x q.y) -ℤ (cross_of p.x p.y q.x q.y *ℤ dot_of r.x r.y s.x s.y))) }
+{
+    WideAngle::between(r, s).exceeds(WideAngle::between(p, q))
 }
 
 /// Returns on which side of the circle through `a`, `b` and `c` the point `d` is, if these are in

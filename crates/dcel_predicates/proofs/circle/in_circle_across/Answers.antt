@@ -1,4 +1,5 @@
-use Rattle.std.proofs.Common.{IsTrue}
+use Rattle.std.proofs.Common.{IsTrue, refl}
+use Rattle.dcel_predicates.specs.Steps.{cross_of, dot_of}
 use Rattle.dcel_predicates.proofs.circle.in_circle_across.Goals as goal
 use Rattle.dcel_predicates.proofs.Angles.{steps_apart, told_across}
 
@@ -37,9 +38,11 @@ returns-else-are_narrow c =
     let q = c.between-q in
     let r = c.between-r in
     let s = c.between-s in
-    let at_d = c.between-else-are_narrow in
-    let at_c = c.between-else-are_narrow-2 in
-    told_across (IsTrue c.exceeds-else-are_narrow.result) a.a a.b a.c a.d p.result.x p.result.y q.result.x q.result.y r.result.x r.result.y s.result.x s.result.y
-    at_d.result.sine at_c.result.cosine at_c.result.sine at_d.result.cosine
+    let u = p.result in
+    let v = q.result in
+    let x = r.result in
+    let y = s.result in
+    told_across (IsTrue c.exceeds_widely.result) a.a a.b a.c a.d u.x u.y v.x v.y x.x x.y y.x y.y
+    (cross_of x.x x.y y.x y.y) (dot_of u.x u.y v.x v.y) (cross_of u.x u.y v.x v.y) (dot_of x.x x.y y.x y.y)
     p.ensures.x p.ensures.y q.ensures.x q.ensures.y r.ensures.x r.ensures.y s.ensures.x s.ensures.y
-    at_d.ensures.sine at_c.ensures.cosine at_c.ensures.sine at_d.ensures.cosine c.exceeds-else-are_narrow.ensures
+    refl refl refl refl c.exceeds_widely.ensures
