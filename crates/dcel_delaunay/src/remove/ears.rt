@@ -6,7 +6,7 @@
 //! Delaunay triangle of the ring; then it rises on, above the ring without the ear (O. Devillers, "On
 //! deletion in Delaunay triangulations", 1999).
 //!
-//! Heights are doubles. Nothing depends on them but the number of flips: each edge is tested exactly
+//! Heights are doubles, and their bits ascend with them. Nothing depends on them but the number of flips: each edge is tested exactly
 //! before it is flipped, and illegal edges that are left are flipped later.
 
 ghost use Rattle.std.specs.Prelude.{◌<◌};
@@ -16,61 +16,58 @@ ghost use Rattle.spade_dcel.specs.Handles.{mesh_behind, number_of};
 use dcel_planar::{Edge, EdgeMesh, Point, point_of};
 use spade_dcel::handles::{FixedDirectedEdgeHandle, FixedVertexHandle};
 use std::alloc::Allocator;
+use std::num::f64_to_bits_with_nan;
 
 /// Where a vertex has more edges, ears aren't measured: each search goes through all of them.
 pub(crate) const MOST_EARS: usize = 16;
 
-/// The height of what is no ear, or can't be cut off.
-const NEVER: f64 = f64::INFINITY;
+/// The key of what is no ear, or can't be cut off.
+const NEVER: i64 = i64::MAX;
 
-/// The ring of a vertex's neighbors.
+/// The places of a ring, each before the next one.
+const BEFORE: [u8; MOST_EARS] = [0, 0, 1, 2, 3, 4, 5, 6, 7, 8, 9, 10, 11, 12, 13, 14];
+
+const AFTER: [u8; MOST_EARS] = [1, 2, 3, 4, 5, 6, 7, 8, 9, 10, 11, 12, 13, 14, 15, 0];
+
+/// The ring of a vertex's neighbors, which are its corners, each in a column by its place.
 #[derive(Drop)]
 pub(crate) struct Ring {
-    corners: [Corner; MOST_EARS],
-    // Where the plane of each corner's ear is at the vertex.
-    heights: [f64; MOST_EARS],
+    // Where a corner is, seen from the vertex, and the square of the distance.
+    x: [f64; MOST_EARS],
+    y: [f64; MOST_EARS],
+    lift: [f64; MOST_EARS],
+    // Twice the area of the triangle with the vertex and the corner after it.
+    area: [f64; MOST_EARS],
+    // The bits of where the plane of its ear is at the vertex, the last four of them its place.
+    keys: [i64; MOST_EARS],
+    // The edge that ends at it.
+    spokes: [FixedDirectedEdgeHandle; MOST_EARS],
+    // The places of its neighbors in the ring.
+    before: [u8; MOST_EARS],
+    after: [u8; MOST_EARS],
     count: u8,
     left: u8,
-}
-
-/// A neighbor of the vertex.
-#[derive(Clone, Copy)]
-struct Corner {
-    // Where it is, seen from the vertex, and the square of the distance.
-    x: f64,
-    y: f64,
-    lift: f64,
-    // Twice the area of the triangle with the vertex and the corner after it.
-    area: f64,
-    // The edge that ends here.
-    spoke: FixedDirectedEdgeHandle,
-    // The places of its neighbors in the ring.
-    before: u8,
-    after: u8,
 }
 
 impl Ring {
     /// A ring of no corners.
     #[inline(always)]
     pub(crate) fn new() -> Self {
-        let corner = Corner {
-            x: 0.0,
-            y: 0.0,
-            lift: 0.0,
-            area: 0.0,
-            spoke: FixedDirectedEdgeHandle::new(0),
-            before: 0,
-            after: 0,
-        };
         Ring {
-            corners: [corner; MOST_EARS],
-            heights: [NEVER; MOST_EARS],
+            x: [0.0; MOST_EARS],
+            y: [0.0; MOST_EARS],
+            lift: [0.0; MOST_EARS],
+            area: [0.0; MOST_EARS],
+            keys: [NEVER; MOST_EARS],
+            spokes: [FixedDirectedEdgeHandle::new(0); MOST_EARS],
+            before: BEFORE,
+            after: AFTER,
             count: 0,
             left: 0,
         }
     }
 
-    /// Goes round a vertex and measures its ears, unless it is on the hull or has too many edges.
+    /// Goes round a vertex inside of triangles and measures its ears, unless it has too many edges.
     pub(crate) fn measure<UE, A: Allocator>(
         &mut self,
         dcel: &EdgeMesh<UE, A>,
@@ -80,7 +77,7 @@ impl Ring {
     {
         let center = point_of(dcel.vertex(vertex));
         for spoke in dcel.vertex(vertex).out_edges() {
-            if usize::from(self.count) >= MOST_EARS || spoke.is_outer_edge() {
+            if usize::from(self.count) >= MOST_EARS {
                 self.left = 0;
                 return;
             }
@@ -96,15 +93,12 @@ impl Ring {
             return None;
         }
         let mut lowest = NEVER;
-        let mut found = 0;
         for place in 0..self.count {
-            let height = self.heights[usize::from(place) % MOST_EARS];
-            let is_lower = height < lowest;
-            lowest = if is_lower { height } else { lowest };
-            found = if is_lower { place } else { found };
+            let key = self.keys[usize::from(place) % MOST_EARS];
+            lowest = if key < lowest { key } else { lowest };
         }
         if lowest < NEVER {
-            return Some(found);
+            return Some((lowest.cast_unsigned() % 16) as u8);
         }
         None
     }
@@ -112,26 +106,30 @@ impl Ring {
     /// Returns the edge that a flip takes from the vertex to cut off an ear.
     #[inline]
     pub(crate) fn spoke(&self, place: u8) -> FixedDirectedEdgeHandle {
-        self.at(place).spoke
+        self.spokes[usize::from(place) % MOST_EARS]
     }
 
     /// Takes a corner whose ear was cut off out of the ring.
     #[inline]
     pub(crate) fn cut(&mut self, place: u8) {
-        let (before, after) = (self.at(place).before, self.at(place).after);
-        self.pass_over(place);
         self.left = self.left.wrapping_sub(1);
-        self.at_mut(before).after = after;
-        self.at_mut(after).before = before;
+        if self.left <= 3 {
+            return;
+        }
+        let before = self.before[usize::from(place) % MOST_EARS];
+        let after = self.after[usize::from(place) % MOST_EARS];
+        self.pass_over(place);
+        self.after[usize::from(before) % MOST_EARS] = after;
+        self.before[usize::from(after) % MOST_EARS] = before;
         self.set_area(before);
-        self.set_height(before);
-        self.set_height(after);
+        self.set_key(before);
+        self.set_key(after);
     }
 
     /// Leaves out an ear that can't be cut off, until a neighbor of its corner is.
     #[inline]
     pub(crate) fn pass_over(&mut self, place: u8) {
-        self.heights[usize::from(place) % MOST_EARS] = NEVER;
+        self.keys[usize::from(place) % MOST_EARS] = NEVER;
     }
 
     /// Adds the corner where an edge of the vertex ends.
@@ -139,22 +137,17 @@ impl Ring {
     fn push<UE, A: Allocator>(&mut self, spoke: Edge<'_, UE, A>, center: Point)
         requires { IsLive (mesh_behind spoke).shape (number_of spoke) }
     {
-        let place = self.count;
+        let place = usize::from(self.count) % MOST_EARS;
         let at = point_of(spoke.to());
         let (x, y) = (
             nearest(at.x.wrapping_sub(center.x)),
             nearest(at.y.wrapping_sub(center.y)),
         );
-        *self.at_mut(place) = Corner {
-            x,
-            y,
-            lift: x * x + y * y,
-            area: 0.0,
-            spoke: spoke.fix(),
-            before: place.wrapping_sub(1),
-            after: place.wrapping_add(1),
-        };
-        self.count = place.wrapping_add(1);
+        self.x[place] = x;
+        self.y[place] = y;
+        self.lift[place] = x * x + y * y;
+        self.spokes[place] = spoke.fix();
+        self.count = self.count.wrapping_add(1);
         self.left = self.count;
     }
 
@@ -162,52 +155,48 @@ impl Ring {
     #[inline]
     fn close(&mut self) {
         let last = self.count.wrapping_sub(1);
-        self.at_mut(0).before = last;
-        self.at_mut(last).after = 0;
+        self.before[0] = last;
+        self.after[usize::from(last) % MOST_EARS] = 0;
         for place in 0..self.count {
             self.set_area(place);
         }
         for place in 0..self.count {
-            self.set_height(place);
+            self.set_key(place);
         }
     }
 
     #[inline(always)]
     fn set_area(&mut self, place: u8) {
-        let corner = self.at(place);
-        let area = cross(corner, self.at(corner.after));
-        self.at_mut(place).area = area;
+        let at = usize::from(place) % MOST_EARS;
+        let after = usize::from(self.after[at]) % MOST_EARS;
+        self.area[at] = self.cross(at, after);
     }
 
-    /// Computes the height of an ear by Cramer's rule.
+    /// Computes the height of an ear by Cramer's rule, and its key.
     #[inline(always)]
-    fn set_height(&mut self, place: u8) {
-        let corner = self.at(place);
-        let (before, after) = (self.at(corner.before), self.at(corner.after));
-        let cut_off = cross(before, after);
-        let area = before.area + corner.area - cut_off;
-        let volume = before.lift * corner.area - corner.lift * cut_off + after.lift * before.area;
-        let height = volume / area;
+    fn set_key(&mut self, place: u8) {
+        let at = usize::from(place) % MOST_EARS;
+        let before = usize::from(self.before[at]) % MOST_EARS;
+        let after = usize::from(self.after[at]) % MOST_EARS;
+        let cut_off = self.cross(before, after);
+        let (first, second) = (self.area[before], self.area[at]);
+        let area = first + second - cut_off;
+        let volume = self.lift[before] * second - self.lift[at] * cut_off
+            + self.lift[after] * first;
+        let bits = f64_to_bits_with_nan(volume / area);
+        let key = ((bits & !15) | u64::from(place)).cast_signed();
         let is_ear = (cut_off > 0.0) & (area > 0.0);
-        self.heights[usize::from(place) % MOST_EARS] = if is_ear { height } else { NEVER };
+        self.keys[at] = if is_ear { key } else { NEVER };
     }
 
+    /// Returns twice the area of the triangle of the vertex and two neighbors, below zero if it is
+    /// clockwise.
     #[inline(always)]
-    fn at(&self, place: u8) -> &Corner {
-        &self.corners[usize::from(place) % MOST_EARS]
+    fn cross(&self, a: usize, b: usize) -> f64
+        requires { (a < 16) × (b < 16) }
+    {
+        self.x[a] * self.y[b] - self.y[a] * self.x[b]
     }
-
-    #[inline(always)]
-    fn at_mut(&mut self, place: u8) -> &mut Corner {
-        &mut self.corners[usize::from(place) % MOST_EARS]
-    }
-}
-
-/// Returns twice the area of the triangle of the vertex and two neighbors, below zero if it is
-/// clockwise.
-#[inline(always)]
-fn cross(a: &Corner, b: &Corner) -> f64 {
-    a.x * b.y - a.y * b.x
 }
 
 /// Returns a difference of coordinates as a double, without a branch on its sign.
