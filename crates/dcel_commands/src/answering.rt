@@ -30,7 +30,7 @@ pub fn answer<A: Allocator + Clone, B: Allocator + Copy, K: LineSink>(
         None => out.write(b"bad line\n"),
         Some(Err(_)) => write_refusal(out, Refusal::OutOfMemory),
         Some(Ok(Request::Edit(command))) => match apply(mesh, command, limit) {
-            Ok(reply) => write_reply(out, reply),
+            Ok(reply) => write_reply(out, &reply),
             Err(refused) => write_refusal(out, refused.why),
         },
         Some(Ok(Request::Ask(query))) => match tell(mesh, query) {

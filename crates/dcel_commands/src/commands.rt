@@ -1,5 +1,6 @@
 //! Commands that a mesh carries out or refuses by name, and queries that it answers; the reader of
-//! lines, each a command or a query; and the runner, which writes the replies to lines.
+//! lines, each a command or a query; the writers of replies, as lines; and the runner, which answers
+//! lines.
 
 mod command;
 mod lists;
@@ -9,6 +10,7 @@ mod reply;
 pub use crate::faults::RunFault;
 pub use crate::reading::{Said, read};
 pub use crate::refusal::Refusal;
+pub use crate::replies::{write_refusal, write_reply, write_told};
 pub use crate::request::{LineMesh, Request};
 pub use crate::run::run;
 pub use crate::session::Session;

@@ -113,21 +113,21 @@ fn write_flips<K: LineSink>(out: &mut Writer<'_, K>, legalized: Legalized)
 }
 
 /// Writes the line of a reply.
-pub fn write_reply<A: Allocator, K: LineSink>(out: &mut Writer<'_, K>, reply: Reply<i64, A>)
-    ensures { Writes K.has_failed K.contents out.old out.new (reply_text (response reply)) }
+pub fn write_reply<A: Allocator, K: LineSink>(out: &mut Writer<'_, K>, reply: &Reply<i64, A>)
+    ensures { Writes K.has_failed K.contents out.old out.new (reply_text (response reply.now)) }
 {
     match reply {
         Reply::Ok => out.write(b"ok\n"),
-        Reply::Vertex(vertex) => write_vertex(out, vertex),
-        Reply::Half(edge) => write_half_edge(out, edge),
+        Reply::Vertex(vertex) => write_vertex(out, *vertex),
+        Reply::Half(edge) => write_half_edge(out, *edge),
         Reply::Halves(halves) => {
             out.write(b"halves");
-            write_numbers(out, &halves);
+            write_numbers(out, halves);
             out.write(b"\n");
         }
-        Reply::Opened(opened) => write_opened(out, &opened),
-        Reply::Removed(removed) => write_removed(out, &removed),
-        Reply::Flips(legalized) => write_flips(out, legalized),
+        Reply::Opened(opened) => write_opened(out, opened),
+        Reply::Removed(removed) => write_removed(out, removed),
+        Reply::Flips(legalized) => write_flips(out, *legalized),
     }
 }
 
