@@ -15,9 +15,13 @@ use Rattle.dcel_maps.specs.Removals.{Removal, Isolated}
 use Rattle.dcel_replay.specs.declared.wrong.Wrong.{Wrong}
 use Rattle.dcel_replay.specs.declared.wrong.Wrong.TheVariants as wrongs
 
--- a command is carried out, and not refused
+-- a command is carried out with this reply
+abbrev pub Replies : State → Instruction ℤ → Response ℤ → State → Type 0
+Replies old command reply new = Carries IsZero IsZero IsZero (2 ^ 31) old (command_rule command) (Ok reply) new
+
+-- it is carried out, and not refused
 abbrev pub Edits : State → Instruction ℤ → State → Type 0
-Edits old command new = (reply : Response ℤ) × Carries IsZero IsZero IsZero (2 ^ 31) old (command_rule command) (Ok reply) new
+Edits old command new = (reply : Response ℤ) × Replies old command reply new
 
 -- it opens a removal
 abbrev pub opens_removal : Instruction ℤ → Bool
@@ -42,9 +46,12 @@ EchoesIf None before after = after ≡ before
 EchoesIf (Some command) before after = Echoes command before after
 
 -- the mesh of before stays while the removal is open, but for what is echoed
+abbrev pub KeepsBut : Removal → Option (Instruction ℤ) → Option State → Option State → Type 0
+KeepsBut (Isolated _ _ _) echo before after = EchoesIf echo before after
+KeepsBut _ echo before after = after ≡ None
+
 abbrev pub Keeps : Removal → Instruction ℤ → Option State → Option State → Type 0
-Keeps (Isolated _ _ _) command before after = EchoesIf (echoed command) before after
-Keeps _ command before after = after ≡ None
+Keeps removal command = KeepsBut removal (echoed command)
 
 -- it is what the mesh was when the removal was opened
 abbrev pub Remembers : Bool → State → Instruction ℤ → Option State → State → Option State → Type 0
