@@ -1,25 +1,30 @@
 -- An edge of a vertex flipped between two triangles that turn left: what it keeps, and that the vertex has one edge less.
-use Rattle.std.proofs.Common.{◌≡◌, ◌≢◌, ◌⊎◌, inl, inr, ℕ, ◌+◌, ◌*◌, ◌/◌, ◌<◌, Bool, IsTrue, ◌↔◌, List, [], ◌∷◌, ◌++◌, length, map, slice_set, refl, sym, ap, ◌∙◌, subst, arith}
+use Rattle.std.proofs.Common.{◌≡◌, ◌≢◌, ◌⊎◌, inl, inr, ℕ, ◌+◌, ◌*◌, ◌/◌, ◌<◌, Bool, IsTrue, ◌↔◌, List, [], ◌∷◌, ◌++◌, length, map, slice_set, true, refl, sym, ap, ◌∙◌, subst, eq-zero-or-pos, arith}
 use Rattle.std.proofs.lemmas.Bool.{cases_eq, cases_lt}
 use Rattle.std.proofs.lemmas.List.{length-set}
 use Rattle.dcel_fixed.proofs.Halves.{rev-double}
 use Rattle.dcel_maps.specs.Conditions.{CanFlip}
 use Rattle.dcel_maps.specs.edits.Flip.{edge_flipped}
-use Rattle.dcel_maps.specs.Shapes.{IsLive, IsMesh, Mesh, Shape, face_count, face_of, origin_of, prev_of}
+use Rattle.dcel_maps.specs.Shapes.{IsLive, IsMesh, Mesh, Shape, edge_is_live, face_count, face_of, origin_of, prev_of}
 use Rattle.dcel_maps.specs.Sides.{IsOnHull}
+use Rattle.dcel_maps.specs.Triangulations.{AllTriangles}
 use Rattle.dcel_maps.specs.Walking.{IsOutEdge, ListsOnce, out_edges_of}
 use Rattle.dcel_maps.specs.Words.{count_of}
 use Rattle.dcel_maps.proofs.edits.Around.{at_edge}
 use Rattle.dcel_maps.proofs.edits.Flips.{at_flip, flipped_mesh}
+use Rattle.dcel_maps.proofs.Liveness.{even_live, odd_live}
 use Rattle.dcel_maps.proofs.Triangulations.{flipped}
 use Rattle.dcel_maps.proofs.walks.Turning.{mesh-out_edges}
 use Rattle.dcel_maps.proofs.words.Counts.{count-append, count-equal, first_or_later}
 use Rattle.dcel_maps.proofs.words.EachSet.{other-two_set}
 use Rattle.dcel_maps.proofs.words.Mapped.{count-mapped, mapped_from}
 use Rattle.dcel_predicates.specs.declared.point.Point.{Point}
+use Rattle.dcel_predicates.proofs.Points.{orient2d-turned}
+use Rattle.dcel_predicates.proofs.Signs.{ordered}
 use Rattle.dcel_legalize.specs.Flipping.{sides_beside}
-use Rattle.dcel_planar.proofs.Circled.{inner_from}
 use Rattle.dcel_plane.specs.Plane.{TurnsLeft, point_at}
+use Rattle.dcel_plane.proofs.covering.Inside.{on_start}
+use Rattle.dcel_plane.proofs.covering.Triangles.{is_triangle}
 use Rattle.dcel_plane.proofs.hull.Keeping.{flip_keeps_convex, flip_keeps_hull}
 use Rattle.dcel_plane.specs.removal.Wheels.{CanFlipInPlane}
 use Rattle.dcel_plane.proofs.removal.Fewer.{flip_keeps_inner, flip_takes_one}
@@ -43,12 +48,37 @@ hull_stays at s u (inr outer) turn =
     let inside = turn.inner_facing in
     omega (arith, is, inside)
 
-pub can_turn_from : (at : ℕ → Point) (s : Shape) (u : ℕ) → CanFlip s u → ¬ IsOnHull s (2 * u)
-    → TurnsLeft (at (origin_of s (prev_of s (2 * u)))) (at (origin_of s (prev_of s (2 * u + 1)))) (at (origin_of s (2 * u + 1)))
-    → TurnsLeft (at (origin_of s (prev_of s (2 * u + 1)))) (at (origin_of s (prev_of s (2 * u)))) (at (origin_of s (2 * u))) → CanFlipInPlane at s u
-can_turn_from at s u can off first second =
-    let inner = inner_from s u can off in
-    record { can = can; inner = inner.inner; inner_facing = inner.inner_facing; first = first; second = second }
+-- what lies between two inner triangles and leaves two that turn left can be flipped
+pub can_turn_from : {DE UE F : Type 0} (m : Mesh Point DE UE F) → IsMesh m → AllTriangles m.shape → (u : ℕ) → edge_is_live m.shape u ≡ true → ¬ IsOnHull m.shape (2 * u)
+    → TurnsLeft (point_at m (origin_of m.shape (prev_of m.shape (2 * u)))) (point_at m (origin_of m.shape (prev_of m.shape (2 * u + 1)))) (point_at m (origin_of m.shape (2 * u + 1)))
+    → TurnsLeft (point_at m (origin_of m.shape (prev_of m.shape (2 * u + 1)))) (point_at m (origin_of m.shape (prev_of m.shape (2 * u)))) (point_at m (origin_of m.shape (2 * u)))
+    → CanFlipInPlane (point_at m) m.shape u
+can_turn_from m mesh triangles u live off first second =
+    let s = m.shape in
+    let at = point_at m in
+    let near = at (origin_of s (prev_of s (2 * u))) in
+    let end = at (origin_of s (2 * u + 1)) in
+    let inner : 0 < face_of s (2 * u) = elim (eq-zero-or-pos (face_of s (2 * u))) [ inl outer ↦ absurd (off (inl outer)) | inr more ↦ more ] in
+    let inner_facing : 0 < face_of s (2 * u + 1) = elim (eq-zero-or-pos (face_of s (2 * u + 1))) [
+      | inl outer ↦ absurd (off (inr (ap (face_of s) (rev-double u) ∙ outer)))
+      | inr more ↦ more
+    ] in
+    let same_turn = orient2d-turned end near near in
+    let none = on_start end near in
+    record {
+      can = record {
+        live = live;
+        triangle = is_triangle m mesh triangles (2 * u) (even_live s u live) inner;
+        facing = is_triangle m mesh triangles (2 * u + 1) (odd_live s u live) inner_facing;
+        corners = λ same.
+            (let turned : TurnsLeft near near end = subst (λ (k : ℕ). TurnsLeft near (at k) end) (sym same) first in
+            omega (arith, ordered, turned, same_turn, none));
+      };
+      inner = inner;
+      inner_facing = inner_facing;
+      first = first;
+      second = second;
+    }
 
 -- the hull test of a half edge that is read from an edge
 pub hull_as : {DE UE F : Type 0} (b : Bool) (m lent half : Mesh Point DE UE F) (u v h : ℕ) → lent ≡ m → v ≡ u → half ≡ lent → h ≡ 2 * v → IsTrue b ↔ IsOnHull half.shape h

@@ -1,6 +1,7 @@
 //! Edges flipped until few are left at a vertex.
 
-ghost use Rattle.std.specs.Prelude.{◌↔◌, ◌<◌, IfNone, IfSome, IsTrue, OnErr, OnOk, vec_capacity, vec_len};
+ghost use Rattle.std.specs.Prelude.{◌≡◌, ◌↔◌, ◌<◌, IfNone, IfSome, IsTrue, OnErr, OnOk, true, vec_capacity, vec_len};
+ghost use Rattle.dcel_maps.specs.Shapes.{edge_is_live};
 ghost use Rattle.dcel_plane.specs.Plane.{TurnsLeft, point_at};
 ghost use Rattle.dcel_plane.specs.removal.Wheels.{CanFlipInPlane};
 ghost use Rattle.dcel_planar.specs.Growing.{HasHull, IsTriangleMesh};
@@ -155,6 +156,7 @@ fn turnable<UE, A: Allocator>(
     vertex: FixedVertexHandle,
     half: FixedDirectedEdgeHandle,
 ) -> Option<FixedUndirectedEdgeHandle>
+    requires { IsTriangleMesh dcel.now }
     ensures { IfSome result (IsTurnable dcel.now vertex) }
 {
     if dcel.get_directed_edge(half)?.from().fix() != vertex {
@@ -172,7 +174,8 @@ fn edge_to_turn<UE, A: Allocator>(
     dcel: &EdgeMesh<UE, A>,
     vertex: FixedVertexHandle,
 ) -> Option<FixedUndirectedEdgeHandle>
-    requires { vertex < dcel.now.shape.vertices }
+    requires sound { IsTriangleMesh dcel.now }
+    requires vertex { vertex < dcel.now.shape.vertices }
     ensures some { IfSome result (IsTurnable dcel.now vertex) }
     ensures none { IfNone result (HasNoneToTurn dcel.now vertex) }
 {
@@ -188,12 +191,14 @@ fn edge_to_turn<UE, A: Allocator>(
 
 /// Returns whether an edge is between two inner triangles and can be flipped, and both go round
 /// counterclockwise then too.
+///
+/// If they do, the corners opposite the edge differ. So that isn't tested.
 fn can_turn<UE, A: Allocator>(dcel: &EdgeMesh<UE, A>, edge: FixedUndirectedEdgeHandle) -> bool
+    requires sound { IsTriangleMesh dcel.now }
+    requires live { edge_is_live dcel.now.shape edge ≡ true }
     ensures { IsTrue result ↔ CanFlipInPlane (point_at dcel.now) dcel.now.shape edge }
 {
-    if !dcel.can_flip(edge) {
-        return false;
-    }
+    every_mesh(dcel);
     let half = dcel.undirected_edge(edge).as_directed();
     if half.is_part_of_convex_hull() {
         return false;

@@ -33,7 +33,7 @@ returns g c =
     c.as_directed-half.result.number c.undirected_edge.ensures.mesh c.undirected_edge.ensures.number c.as_directed-half.ensures.mesh c.as_directed-half.ensures.number
     c.is_part_of_convex_hull.ensures in (
       λ yes.
-          can_turn_from (point_at m) m.shape u (c.can_flip.ensures.0 c.if-not-can_flip.false)
+          can_turn_from m c.every_mesh.ensures c.requires.sound.triangles u c.requires.live
           (λ on. (let is = hull.1 on in let no = c.if-is_part_of_convex_hull.false in cc))
           (first.0 c.if-not-turns_left.false) (second.0 yes),
       λ turn. second.1 turn.second,

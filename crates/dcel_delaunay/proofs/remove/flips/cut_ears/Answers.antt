@@ -8,6 +8,9 @@ loop-step-init g c = (
   c.requires.places,
 )
 
+pub turnable-requires : goal.turnable-requires
+turnable-requires g c = c.loop-step.invariant.0.thinned.sound.triangulated
+
 pub flip_cw-requires : goal.flip_cw-requires
 flip_cw-requires g c = c.in-Some-turnable.ensures.can.can
 

@@ -8,6 +8,12 @@ loop-edge-init g c = (
   c.requires.places,
 )
 
+pub edge_to_turn-requires-clause-sound : goal.edge_to_turn-requires-clause-sound
+edge_to_turn-requires-clause-sound g c = c.loop-edge.invariant.0.thinned.sound.triangulated
+
+pub edge_to_turn-requires-clause-vertex : goal.edge_to_turn-requires-clause-vertex
+edge_to_turn-requires-clause-vertex g c = c.loop-edge.invariant.0.thinned.below
+
 pub flip_cw-requires : goal.flip_cw-requires
 flip_cw-requires g c = c.in-Some.ensures.some.can.can
 

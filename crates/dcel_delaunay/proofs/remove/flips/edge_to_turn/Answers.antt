@@ -1,4 +1,5 @@
-use Rattle.std.proofs.Common.{◌/◌, ◌∙◌, ℕ, ap, sym}
+use Rattle.std.proofs.Common.{◌≡◌, ◌/◌, ◌∙◌, ℕ, ap, subst, sym, true}
+use Rattle.dcel_maps.specs.Shapes.{edge_is_live}
 use Rattle.spade_dcel.specs.Handles.{number_of}
 use Rattle.dcel_plane.specs.Plane.{point_at}
 use Rattle.dcel_plane.specs.removal.Wheels.{CanFlipInPlane}
@@ -10,6 +11,12 @@ loop-edge-init g c =
     let m = c.args.dcel.now in
     search_begins (λ h. CanFlipInPlane (point_at m) m.shape (h / 2)) m c.args.vertex _ _ _ c.vertex.ensures.mesh c.vertex.ensures.number c.out_edges-edges.ensures.items
     c.out_edges-edges.ensures.each
+
+pub can_turn-requires-clause-live : goal.can_turn-requires-clause-live
+can_turn-requires-clause-live g c =
+    let m = c.args.dcel.now in
+    let came = search_continues (λ h. CanFlipInPlane (point_at m) m.shape (h / 2)) m c.args.vertex _ _ _ _ c.loop-edge.invariant c.in-Some.ensures.steps.0 in
+    subst (λ (u : ℕ). edge_is_live m.shape u ≡ true) (sym (c.as_undirected-edge.ensures ∙ ap (λ (h : ℕ). h / 2) c.fix.ensures.value)) came.1.starts.live
 
 pub returns-then-can_turn-clause-some : goal.returns-then-can_turn-clause-some
 returns-then-can_turn-clause-some g c =
