@@ -6,8 +6,9 @@
 //! Delaunay triangle of the ring; then it rises on, above the ring without the ear (O. Devillers, "On
 //! deletion in Delaunay triangulations", 1999).
 //!
-//! Heights are doubles, and their bits ascend with them. Nothing depends on them but the number of flips: each edge is tested exactly
-//! before it is flipped, and illegal edges that are left are flipped later.
+//! Heights are doubles, and their bits ascend with them. Nothing depends on them but the number of
+//! flips: each edge is tested exactly before it is flipped, and illegal edges that are left are
+//! flipped later.
 
 ghost use Rattle.std.specs.Prelude.{◌<◌};
 ghost use Rattle.dcel_maps.specs.Shapes.{IsLive};

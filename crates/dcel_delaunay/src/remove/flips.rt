@@ -135,7 +135,7 @@ fn cut_others<UE: EdgeConstraint, A: Allocator, L: Allocator>(
     }
 }
 
-/// Returns whether a vertex inside of triangles has three edges: so none can be flipped so.
+/// Returns whether a vertex inside of triangles has three edges, of which none can be flipped so.
 fn has_three<UE, A: Allocator>(dcel: &EdgeMesh<UE, A>, vertex: FixedVertexHandle) -> bool
     requires sound { IsTriangleMesh dcel.now }
     requires hull { HasHull dcel.now }
