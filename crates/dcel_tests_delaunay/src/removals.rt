@@ -285,10 +285,10 @@ fn remove_refused<'a>(
     Ok(came)
 }
 
-/// The same in a triangulation of its own.
+/// The same in a triangulation of its own, which has no room left.
 fn refuse(row: &Row, number: u64, alloc: Global) -> Result<bool, Fail> {
     let memory = Refusing::new(alloc);
-    let mut triangulation = numbered(row.places, &memory)?;
+    let mut triangulation = numbered(row.places, &memory)?.try_clone(&memory)?;
     remove_refused(&mut triangulation, &memory, vertex(row.vertex), number)
 }
 
