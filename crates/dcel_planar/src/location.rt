@@ -18,6 +18,7 @@ use dcel_predicates::{Point, Side};
 pub use line::at_a_vertex;
 use spade_dcel::handles::FixedDirectedEdgeHandle;
 use std::alloc::Allocator;
+use walk::Order;
 
 impl<UE, A: Allocator> PlanarMesh<UE, A> {
     /// Walks from a half edge towards a point, and returns where it is.
@@ -70,6 +71,6 @@ impl<UE, A: Allocator> PlanarMesh<UE, A> {
         ensures face { IfErr result (λ crossed. face_of self.now.dcel.shape (number_of crossed) ≡ face_of self.now.dcel.shape (number_of edge.entry)) }
         ensures beyond { IfErr result (λ crossed. HasBeyond (point_at self.now.dcel) self.now.dcel.shape point (number_of crossed)) }
     {
-        walk::look(&self.dcel, edge, own, point)
+        walk::look(&self.dcel, edge, own, Order::NextFirst, point)
     }
 }

@@ -92,8 +92,14 @@ fn walk<'a, UE, A: Allocator>(
     let mut edge = start;
     let mut own = side(edge, point);
     // It comes to no triangle of a Delaunay triangulation twice.
-    for _step in 0..dcel.num_faces() {
-        match look(dcel, edge, own, point) {
+    for step in 0..dcel.num_faces() {
+        // By turns, so that it doesn't go on round a vertex with very many edges.
+        let order = if step % 2 == 0 {
+            Order::NextFirst
+        } else {
+            Order::PrevFirst
+        };
+        match look(dcel, edge, own, order, point) {
             Ok(position) => return position,
             Err(crossed) => edge = crossed.rev(),
         }
@@ -105,6 +111,15 @@ fn walk<'a, UE, A: Allocator>(
     unreachable!()
 }
 
+/// Which of the other two sides of a triangle is looked at first.
+#[derive(Clone, Copy)]
+pub(crate) enum Order {
+    /// The one after the half edge.
+    NextFirst,
+    /// The one before it.
+    PrevFirst,
+}
+
 /// Returns where a point is in the triangle of a half edge, or a side that it is beyond.
 ///
 /// `own` is the point's side of this half edge ([`side`]); those of the other two are computed.
@@ -113,6 +128,7 @@ pub(crate) fn look<'a, UE, A: Allocator>(
     dcel: &'a EdgeMesh<UE, A>,
     edge: Edge<'a, UE, A>,
     own: Side,
+    order: Order,
     point: Point,
 ) -> Result<PositionInTriangulation, Edge<'a, UE, A>>
     requires triangulated { IsTriangleMesh dcel.now }
@@ -129,17 +145,43 @@ pub(crate) fn look<'a, UE, A: Allocator>(
     if own.is_on_right_side() {
         return Err(edge);
     }
-    let next = edge.next();
-    let after = side(next, point);
-    if after.is_on_right_side() {
-        return Err(next);
-    }
-    let prev = edge.prev();
-    let before = side(prev, point);
-    if before.is_on_right_side() {
-        return Err(prev);
-    }
+    let (next, prev) = (edge.next(), edge.prev());
+    let (after, before) = match order {
+        Order::NextFirst => {
+            let after = side_within(dcel, next, point)?;
+            (after, side_within(dcel, prev, point)?)
+        }
+        Order::PrevFirst => {
+            let before = side_within(dcel, prev, point)?;
+            (side_within(dcel, next, point)?, before)
+        }
+    };
     Ok(place(dcel, edge, own, after, before))
+}
+
+/// Returns on which side of a half edge of a triangle a point is, or the half edge if the point is
+/// beyond it.
+#[inline]
+fn side_within<'a, UE, A: Allocator>(
+    dcel: &'a EdgeMesh<UE, A>,
+    edge: Edge<'a, UE, A>,
+    point: Point,
+) -> Result<Side, Edge<'a, UE, A>>
+    requires mesh { mesh_behind edge ≡ dcel.now }
+    requires live { IsLive dcel.now.shape (number_of edge) }
+    requires inner { 0 < face_of dcel.now.shape (number_of edge) }
+    ensures lies { IfOk result (LiesAt dcel.now point (number_of edge.entry)) }
+    ensures within { IfOk result (λ side. side ≢ Side.Right) }
+    ensures mesh { IfErr result (λ crossed. mesh_behind crossed ≡ dcel.now) }
+    ensures same { IfErr result (λ crossed. number_of crossed ≡ number_of edge.entry) }
+    ensures beyond { IfErr result (λ crossed. HasBeyond (point_at dcel.now) dcel.now.shape point (number_of crossed)) }
+{
+    every_mesh(dcel);
+    let found = side(edge, point);
+    if found.is_on_right_side() {
+        return Err(edge);
+    }
+    Ok(found)
 }
 
 /// Returns where a point is by its sides of the half edges of a triangle, from this one on, none

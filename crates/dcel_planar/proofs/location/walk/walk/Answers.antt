@@ -43,8 +43,8 @@ loop-step-preserved g c =
       live = subst (IsLive m.shape) (sym is) over.0;
       inner = elim (eq-zero-or-pos (face_of m.shape (number_of c.rev-edge.result))) [ inl none ↦ absurd (inner none) | inr some ↦ some ];
       own = subst (HasLeft m p) (sym is) over.1;
-      comes = subst (λ (i : ℕ). Comes m p start (face_of m.shape i) (c.loop-step._step + 1)) (sym is)
-          (crossed m p start (face_of m.shape (number_of c.loop-step.edge)) h c.loop-step._step inv.comes c.in-Err.ensures.face c.in-Err.ensures.beyond);
+      comes = subst (λ (i : ℕ). Comes m p start (face_of m.shape i) (c.loop-step.step + 1)) (sym is)
+          (crossed m p start (face_of m.shape (number_of c.loop-step.edge)) h c.loop-step.step inv.comes c.in-Err.ensures.face c.in-Err.ensures.beyond);
     }
 
 pub unreachable-requires : goal.unreachable-requires
@@ -52,6 +52,6 @@ unreachable-requires g c =
     let m = c.args.dcel.now in
     let inv = c.loop-step.invariant in
     let few =
-    comes_few m c.every_mesh.ensures c.requires.sound c.args.point (face_of m.shape (number_of c.args.start)) (number_of c.loop-step.edge) c.loop-step._step
+    comes_few m c.every_mesh.ensures c.requires.sound c.args.point (face_of m.shape (number_of c.args.start)) (number_of c.loop-step.edge) c.loop-step.step
     inv.live inv.inner inv.comes in
     omega (arith, few, c.loop-step-test.false, c.num_faces-step-end.ensures.count)

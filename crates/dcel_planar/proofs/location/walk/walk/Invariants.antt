@@ -11,5 +11,5 @@ invariant-loop-step g l = record {
   live : IsLive l.dcel.shape (number_of l.edge);
   inner : 0 < face_of l.dcel.shape (number_of l.edge);
   own : LiesAt l.dcel l.point (number_of l.edge) l.own;
-  comes : Comes l.dcel l.point (face_of l.dcel.shape (number_of l.initial.edge)) (face_of l.dcel.shape (number_of l.edge)) l._step;
+  comes : Comes l.dcel l.point (face_of l.dcel.shape (number_of l.initial.edge)) (face_of l.dcel.shape (number_of l.edge)) l.step;
 }
