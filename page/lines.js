@@ -1,6 +1,6 @@
 // The tab of lines: what was said, its replies, and the picture of the mesh.
 
-import { replies, picture } from './mesh.js';
+import { Mesh } from './mesh.js';
 import { viewIn } from './view.js';
 import { at, save, undoBy } from './elements.js';
 import { startAround, choose, chooseAgain } from './around.js';
@@ -18,11 +18,33 @@ const REPLY = /^F0.*\n(?:F[1-9].*\n)*|^.*\n/gm;
 const view = viewIn(at('picture'), choose, isLegible => at('more-numbers').hidden = isLegible);
 let said = [], past = [], shown = [], svg = '', recalled = 0, waiting, changed = () => {};
 
+/** The mesh that is kept, the lines that it was told, and its replies. */
+let mesh, told = [], replied = [];
+
 const text = lines => lines.map(line => `${line}\n`).join('');
-const answers = lines => replies(text(lines)).match(REPLY).map(reply => reply.trimEnd());
+
+/** A mesh's replies to lines, one for each. */
+const answers = (of, lines) => lines.length ? of.run(text(lines)).match(REPLY).map(reply => reply.trimEnd()) : [];
+
+/** Tells the mesh what was said and it wasn't told yet. Where lines were taken back a new one begins. */
+function tell() {
+  const isBegun = mesh && told.length <= said.length && told.every((line, number) => line === said[number]);
+  const begun = isBegun ? mesh : new Mesh(), before = isBegun ? replied : [];
+  if (!isBegun) mesh?.free();
+  mesh = undefined; // until all was told
+  replied = before.concat(answers(begun, said.slice(before.length)));
+  [mesh, told] = [begun, said];
+}
 
 /** The replies to queries of the mesh. */
-const ask = (...queries) => answers([...said, ...queries]).slice(-queries.length);
+const ask = (...queries) => answers(mesh, queries);
+
+/** The reply that the mesh would have to a line. */
+function tried(line) {
+  const other = new Mesh(text(said)), [reply] = answers(other, [line]);
+  other.free();
+  return reply;
+}
 
 const isRefused = reply => /^(refused|bad line)/.test(reply);
 
@@ -64,13 +86,13 @@ function undo() {
 
 /** Shows the replies that are new, and the mesh. */
 function show(isDrawn = false) {
-  const all = answers([...said, 'counts']);
-  const counts = all.pop();
+  tell();
+  const [counts] = ask('counts');
   const same = said.findIndex((line, number) => line !== shown[number]);
   const kept = same < 0 ? said.length : same;
   while (at('talk').children.length > kept) at('talk').lastChild.remove();
-  at('talk').append(...said.slice(kept).map((line, number) => entry(line, all[kept + number])));
-  offer(all.at(-1));
+  at('talk').append(...said.slice(kept).map((line, number) => entry(line, replied[kept + number])));
+  offer(replied.at(-1));
   at('talk').scrollTop = at('talk').scrollHeight;
   shown = said;
   recalled = said.length;
@@ -97,7 +119,7 @@ function entry(line, reply) {
 /** Adds a button to the last reply, if that refuses the half edges of a removal: it says the line with the right ones. */
 function offer(reply) {
   at('offer')?.remove();
-  const line = reply === BAD_RING ? offerFor(said.at(-1), ask) : null;
+  const line = reply === BAD_RING ? offerFor(said.at(-1), ask, tried) : null;
   if (!line) return;
   const button = document.createElement('button');
   button.id = 'offer';
@@ -115,7 +137,7 @@ function drawSoon() {
 
 function draw() {
   clearTimeout(waiting);
-  svg = picture(text(said), { anchors: at('anchors').checked });
+  svg = mesh.picture({ anchors: at('anchors').checked });
   view.draw(svg);
   chooseAgain();
   at('picture').ariaBusy = 'false';
@@ -135,8 +157,7 @@ function hint() {
 
 /** The lines said; those that were refused are comments, so that any reader of lines takes the rest. */
 function saved() {
-  const all = answers([...said, 'counts']);
-  return text(said.map((line, number) => isRefused(all[number]) ? `# ${line}: ${all[number]}` : line));
+  return text(said.map((line, number) => isRefused(replied[number]) ? `# ${line}: ${replied[number]}` : line));
 }
 
 function listWords() {

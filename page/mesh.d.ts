@@ -14,6 +14,27 @@ export function replies(lines: string): string;
 export function picture(lines: string, options?: { anchors?: boolean }): string;
 
 /**
+ * A mesh that lines edit, and which is kept: each line costs what it edits, where `replies` and `picture` begin anew. Lines and replies are
+ * those of `replies`, without an end to how many can come.
+ *
+ * Each call throws a RangeError if no memory is left, and a TypeError if the mesh was freed. Then the lines before the one that found no memory
+ * are carried out. Of that one only the reply may be missing.
+ */
+export class Mesh {
+  /** Begins with the mesh that these lines leave, each of which ends with a line feed; without them it is empty. */
+  constructor(lines?: string);
+
+  /** Has the mesh do what lines say, in order, and returns the replies. Each line ends with a line feed. */
+  run(lines: string): string;
+
+  /** Draws the mesh as SVG, as `picture` does. */
+  picture(options?: { anchors?: boolean }): string;
+
+  /** Gives back the memory, which happens too once nothing refers to the mesh. */
+  free(): void;
+}
+
+/**
  * Returns the Delaunay triangulation of points: the numbers of the three corners of each triangle, counterclockwise if y points up.
  * Equal points are one, under the least of their numbers. Points on one line have no triangle.
  *

@@ -4,7 +4,7 @@
 /** The module as base64, which tools/page puts here. */
 const WASM = '/*WASM*/';
 const PAGE = 65536;
-const LEAST_HEAP = 2 ** 24, LARGEST_HEAP = 2 ** 30, LEAST_LENT = 2 ** 20, CELLS = 8;
+const LEAST_HEAP = 2 ** 24, LARGEST_HEAP = 2 ** 30, LEAST_LENT = 2 ** 20, LEAST_TEXT = 2 ** 12, CELLS = 8, LINE_FEED = 10;
 const DONE = 0, SHORT = 1, NO_MEMORY = 2, OUT_OF_RANGE = 3, UNFINISHED = 5, NO_ROOM = 7, CROSSES = 8;
 
 /** The smallest module with a memory of 64-bit addresses. */
@@ -127,7 +127,7 @@ class Workshop {
     return this.#exports[`mesh_page_${name}`](BigInt(desk), ...given);
   }
 
-  /** Makes a triangulation of a kind on a desk. */
+  /** Makes a thing of a kind on a desk. */
   make(kind, desk) {
     this.insist(() => this.#exports[`mesh_page_${kind}`](BigInt(this.#first), BigInt(desk)));
   }
@@ -140,6 +140,22 @@ class Workshop {
       if (status === UNFINISHED && !isUnfinished) tell();
       isUnfinished ||= status === UNFINISHED;
     }
+  }
+
+  /**
+   * Has a call put a text into a buffer, and returns it. The call takes the place of what is given, and of the buffer its place and size and
+   * the place of the length; `again` takes these three, and puts the same text once more: where the buffer was short, or memory ended.
+   */
+  text(call, again, given = new Uint8Array()) {
+    const before = up(given.length), told = BigInt(this.cell(1)), at = this.room(before + LEAST_TEXT);
+    this.array(Uint8Array, at, given.length).set(given);
+    const buffer = [BigInt(at + before), BigInt(LEAST_TEXT), told];
+    const status = this.insist(() => call(BigInt(at), ...buffer), () => again(...buffer));
+    const length = Number(this.view().getBigUint64(Number(told), true));
+    if (status !== SHORT) return textOf(this.array(Uint8Array, at + before, length));
+    const larger = this.room(length);
+    this.insist(() => again(BigInt(larger), BigInt(length), told));
+    return textOf(this.array(Uint8Array, larger, length));
   }
 }
 
@@ -429,6 +445,60 @@ export class ConstrainedDelaunay extends Delaunay {
 
   #vertices(a, b) {
     return [parts.vertexOf(this, a, 'a'), parts.vertexOf(this, b, 'b')];
+  }
+}
+
+/** A mesh that lines edit. It is kept in the module, so a line costs what it edits. */
+export class Mesh {
+  #desk;
+
+  constructor(lines = '') {
+    const shop = open();
+    this.#desk = shop.newDesk();
+    try {
+      shop.make('mesh', this.#desk);
+      this.run(lines);
+    } catch (error) {
+      shop.clear(this.#desk);
+      throw error;
+    }
+    forgotten?.register(this, this.#desk, this);
+  }
+
+  #shop() {
+    if (this.#desk === undefined) throw new TypeError('the mesh was freed');
+    return workshop;
+  }
+
+  /** Has the mesh do what lines say, each of which ends with a line feed, and returns the replies. */
+  run(lines) {
+    const shop = this.#shop(), bytes = bytesOf(lines), answers = [];
+    for (let at = 0, end; at < bytes.length; at = end + 1) {
+      end = bytes.indexOf(LINE_FEED, at);
+      if (end < 0) end = bytes.length;
+      answers.push(this.#answer(shop, bytes.subarray(at, end)));
+    }
+    return answers.join('');
+  }
+
+  /** The reply to a line, which the module keeps: no line is carried out again for its reply. */
+  #answer(shop, line) {
+    const answer = (at, ...buffer) => shop.call('answer', this.#desk, at, BigInt(line.length), ...buffer);
+    return shop.text(answer, (...buffer) => shop.call('last_reply', this.#desk, ...buffer), line);
+  }
+
+  /** The picture of the mesh, as SVG. */
+  picture({ anchors = false } = {}) {
+    const shop = this.#shop(), draw = (...buffer) => shop.call('draw', this.#desk, anchors ? 1 : 0, ...buffer);
+    return shop.text((_, ...buffer) => draw(...buffer), draw);
+  }
+
+  /** Gives the memory back. Nothing can be asked of the mesh afterwards. */
+  free() {
+    if (this.#desk === undefined) return;
+    forgotten?.unregister(this);
+    workshop.clear(this.#desk);
+    this.#desk = undefined;
   }
 }
 

@@ -1,12 +1,12 @@
 // What a removal that is refused as BadRing may have meant: the same with the border loop of its vertex, or with the ring of its faces.
 
 /**
- * The line that is offered in place of a refused one, or null. `ask` returns the replies to queries of the mesh that refused it; a line that
- * this mesh refuses too isn't offered.
+ * The line that is offered in place of a refused one, or null. `ask` returns the replies to queries of the mesh that refused it, and `tried`
+ * the reply that it would have to a line; one that it would refuse too isn't offered.
  */
-export function offerFor(line, ask) {
+export function offerFor(line, ask, tried) {
   const removal = line.startsWith('isolate ') ? ofVertex(line.split(' ')[1], ask) : ofFaces(line.split('/').at(-1), ask);
-  return removal && ask(removal)[0].startsWith('opened') ? removal : null;
+  return removal && tried(removal).startsWith('opened') ? removal : null;
 }
 
 /** The removal of a vertex with its border loop, or with its strip if it is on the hull. */

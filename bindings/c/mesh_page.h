@@ -19,7 +19,7 @@ enum {
     MESH_PAGE_NO_MEMORY = 2,      /* the memory lent was too small, or points are too many; *needed is 0 */
     MESH_PAGE_OUT_OF_RANGE = 3,   /* a coordinate is below -2^53 or above 2^53, and *needed is 0 */
     MESH_PAGE_NOT_KEPT = 4,       /* no such thing is kept: none was made, or it was freed */
-    MESH_PAGE_UNFINISHED = 5,     /* the triangulation isn't whole, for want of memory: lend some, and finish */
+    MESH_PAGE_UNFINISHED = 5,     /* for want of memory the triangulation isn't whole, or a reply lacks: lend some, and finish, or ask again */
     MESH_PAGE_NO_SUCH_VERTEX = 6, /* no vertex has the number */
     MESH_PAGE_NO_ROOM = 7,        /* there are no numbers for so many elements */
     MESH_PAGE_CROSSES = 8,        /* the segment would cross a constraint */
@@ -76,6 +76,21 @@ uint32_t mesh_page_lend(mesh_page_kept *kept, mesh_page_memory memory);
 
 /* Frees what is on the desk, which stays for what is made next. */
 void mesh_page_free(mesh_page_kept *kept);
+
+/* Makes an empty mesh on a desk, in the heap of another one. Lines edit it. */
+uint32_t mesh_page_mesh(mesh_page_kept *from, mesh_page_kept *kept);
+
+/* Has the mesh do what a line says, which has no line feed, and puts the reply into the buffer. With
+   NO_MEMORY nothing has changed, and the line may be sent again. With SHORT and UNFINISHED the mesh did
+   what the line says, and the next call puts the reply. */
+uint32_t mesh_page_answer(mesh_page_kept *kept, const uint8_t *line, size_t line_len, uint8_t *reply, size_t reply_len,
+                          uint64_t *needed);
+
+/* The reply to the last line once more. */
+uint32_t mesh_page_last_reply(mesh_page_kept *kept, uint8_t *reply, size_t reply_len, uint64_t *needed);
+
+/* The SVG of the mesh, with what an open removal has given up. */
+uint32_t mesh_page_draw(mesh_page_kept *kept, bool anchors, uint8_t *svg, size_t svg_len, uint64_t *needed);
 
 /* Makes a Delaunay triangulation of no points on a desk, in the heap of another one. */
 uint32_t mesh_page_delaunay(mesh_page_kept *from, mesh_page_kept *kept);

@@ -1,7 +1,8 @@
 /* Calls each export of crates/mesh_page with memory of every size up to what it needs, and with a buffer
    of every size up to what the answer has. Behind the memory, and behind the buffer, stands a page that
-   can't be written: who writes past an end is stopped by the machine. A triangulation that is kept gets
-   more memory after each size that was too small, and has to end as one that had enough. */
+   can't be written: who writes past an end is stopped by the machine. What is kept, a mesh or a
+   triangulation, gets more memory after each size that was too small, and has to end as one that had
+   enough. */
 #define _DEFAULT_SOURCE
 #include "mesh_page.h"
 
@@ -320,6 +321,119 @@ static void check_constrained(void) {
     printf("constrained: with %zu bytes\n", size - 16);
 }
 
+/* Lines of all kinds; a removal is opened, looked at and closed. */
+static const char *const TOLD[] = {"triangle 0 1 2", "append 3", "insert 3 1", "foo", "flip 99", "", "get 3", "isolate 3 1 3 5",
+                                   "words", "append 4", "cleanup 3 4 5 / 2 3 1", "remove 3", "legalize 4 0 1 2", "counts"};
+/* So many of them leave the removal open. */
+#define OPENED 10
+
+/* Has the mesh answer a line. Where memory lacks there is more: then the line is sent again, or only its
+   reply lacks. Into a short buffer as much is put as fits, and the whole of it with the next call. */
+static size_t reply_to(const char *line, mesh_page_kept *root, mesh_page_kept *kept, uint8_t *out, bool *is_enough, size_t size) {
+    mesh_page_memory further = {last(more, ENOUGH), ENOUGH};
+    const uint8_t *bytes = (const uint8_t *)line;
+    uint8_t few[3] = {FILL, FILL, FILL};
+    uint64_t needed = 9, again = 9;
+    uint32_t status = mesh_page_answer(kept, bytes, strlen(line), few, 2, &needed);
+    if (status == MESH_PAGE_NO_MEMORY || status == MESH_PAGE_UNFINISHED) {
+        must(*is_enough && needed == 0 && is_filled(few, few + 3), "answer", "it has too little memory still, or tells something", size);
+        *is_enough = false;
+        must(mesh_page_lend(root, further) == MESH_PAGE_DONE, "lend", "it isn't taken", size);
+        status = status == MESH_PAGE_NO_MEMORY ? mesh_page_answer(kept, bytes, strlen(line), few, 2, &needed)
+                                               : mesh_page_last_reply(kept, few, 2, &needed);
+    }
+    must(status == MESH_PAGE_SHORT && needed > 2 && few[2] == FILL, "answer", "the buffer isn't short", size);
+    uint8_t *all = last(buffer, (size_t)needed);
+    must(mesh_page_last_reply(kept, all, (size_t)needed - 1, &again) == MESH_PAGE_SHORT && again == needed, "last_reply", "the buffer isn't short", size);
+    must(mesh_page_last_reply(kept, all, (size_t)needed, &again) == MESH_PAGE_DONE && again == needed, "last_reply", "it isn't there", size);
+    must(memcmp(all, few, 2) == 0 && all[needed - 1] == '\n', "last_reply", "it is another one", size);
+    memcpy(out, all, (size_t)needed);
+    return (size_t)needed;
+}
+
+/* The picture of the mesh is that of the first lines. */
+static void check_drawn(mesh_page_kept *kept, const char *lines, size_t length, size_t size) {
+    static uint8_t wanted[ROOM];
+    mesh_page_memory memory = {last(lent, ENOUGH), ENOUGH};
+    uint64_t needed = 9, count = 9;
+    must(mesh_page_picture(memory, (const uint8_t *)lines, length, true, wanted, ROOM, &needed) == MESH_PAGE_DONE, "picture", "there is none", size);
+    uint8_t *found = last(buffer, (size_t)needed);
+    must(mesh_page_draw(kept, true, found, (size_t)needed - 1, &count) == MESH_PAGE_SHORT && count == needed, "draw", "the buffer isn't short", size);
+    must(mesh_page_draw(kept, true, found, (size_t)needed, &count) == MESH_PAGE_DONE && count == needed, "draw", "there is none", size);
+    must(memcmp(found, wanted, (size_t)needed) == 0, "draw", "it is another one", size);
+}
+
+/* A mesh is no triangulation, nor the other way round, and on an empty desk there is none. */
+static void check_mesh_alone(mesh_page_kept *root, mesh_page_kept *kept, size_t size) {
+    const mesh_page_point origin = {0, 0};
+    uint8_t out[9];
+    uint64_t needed = 9;
+    uint32_t vertex;
+    must(mesh_page_insert(kept, origin, &vertex) == MESH_PAGE_NOT_KEPT && mesh_page_finish(kept) == MESH_PAGE_NOT_KEPT, "insert", "a mesh has points", size);
+    check_unconstrained(kept, size);
+    for (int time = 0; time < 2; time++) {
+        if (time == 0)
+            must(mesh_page_delaunay(root, kept) == MESH_PAGE_DONE, "delaunay", "its desk isn't used again", size);
+        else
+            mesh_page_free(kept);
+        must(mesh_page_answer(kept, out, 0, out, 9, &needed) == MESH_PAGE_NOT_KEPT && needed == 0, "answer", "there is a mesh", size);
+        must(mesh_page_last_reply(kept, out, 9, &needed) == MESH_PAGE_NOT_KEPT && needed == 0, "last_reply", "there is a mesh", size);
+        must(mesh_page_draw(kept, false, out, 9, &needed) == MESH_PAGE_NOT_KEPT && needed == 0, "draw", "there is a mesh", size);
+    }
+    must(mesh_page_mesh(root, kept) == MESH_PAGE_DONE, "mesh", "its desk isn't used again", size);
+    must(mesh_page_last_reply(kept, out, 0, &needed) == MESH_PAGE_DONE && needed == 0, "last_reply", "there is one", size);
+}
+
+/* A mesh that is kept has the pictures of calls that keep nothing, while a removal is open and afterwards. */
+static void check_pictures(const char *lines, size_t opened) {
+    mesh_page_kept root = {NULL, false}, kept = {NULL, false};
+    mesh_page_memory further = {last(more, ENOUGH), ENOUGH};
+    static uint8_t found[ROOM];
+    bool is_enough = true;
+    must(mesh_page_lend(&root, further) == MESH_PAGE_DONE && mesh_page_mesh(&root, &kept) == MESH_PAGE_DONE, "mesh", "it isn't made", opened);
+    for (size_t i = 0; i < COUNT(TOLD); i++) {
+        reply_to(TOLD[i], &root, &kept, found, &is_enough, i);
+        if (i + 1 == OPENED)
+            check_drawn(&kept, lines, opened, i);
+    }
+    must(is_enough, "answer", "it lacks memory", opened);
+    check_drawn(&kept, lines, strlen(lines), opened);
+    check_mesh_alone(&root, &kept, opened);
+}
+
+/* A mesh that is kept, with memory of every size: it has the replies of a call that keeps
+   nothing. */
+static void check_mesh(void) {
+    static uint8_t wanted[ROOM], found[ROOM];
+    char lines[512] = "";
+    size_t opened = 0, size = 0;
+    for (size_t i = 0; i < COUNT(TOLD); i++) {
+        strcat(strcat(lines, TOLD[i]), "\n");
+        if (i + 1 == OPENED)
+            opened = strlen(lines);
+    }
+    for (bool is_enough = false; !is_enough; size += 16) {
+        must(size < ENOUGH, "mesh", "no memory suffices", size);
+        mesh_page_kept root = {NULL, false}, kept = {NULL, false};
+        mesh_page_memory memory = {last(lent, ENOUGH), ENOUGH}, little = {last(lent, size), size}, further = {last(more, ENOUGH), ENOUGH};
+        uint64_t all = 9;
+        must(mesh_page_replies(memory, (const uint8_t *)lines, strlen(lines), wanted, ROOM, &all) == MESH_PAGE_DONE, "replies", "there are none", size);
+        if (mesh_page_lend(&root, little) != MESH_PAGE_DONE)
+            continue;
+        uint32_t status = mesh_page_mesh(&root, &kept);
+        is_enough = status == MESH_PAGE_DONE;
+        must(is_enough || status == MESH_PAGE_NO_MEMORY, "mesh", "the status is wrong", size);
+        if (!is_enough)
+            must(mesh_page_lend(&root, further) == MESH_PAGE_DONE && mesh_page_mesh(&root, &kept) == MESH_PAGE_DONE, "mesh", "it isn't made", size);
+        size_t length = 0;
+        for (size_t i = 0; i < COUNT(TOLD); i++)
+            length += reply_to(TOLD[i], &root, &kept, found + length, &is_enough, size);
+        must(length == all && memcmp(found, wanted, length) == 0, "answer", "the replies are other ones", size);
+    }
+    printf("mesh: with %zu bytes\n", size - 16);
+    check_pictures(lines, opened);
+}
+
 int main(void) {
     lent = guard(ENOUGH);
     more = guard(ENOUGH);
@@ -330,6 +444,7 @@ int main(void) {
     check_answers();
     check_kept();
     check_constrained();
+    check_mesh();
     printf("%d checks\n", calls);
     return EXIT_SUCCESS;
 }

@@ -4,8 +4,9 @@ use Rattle.dcel_delaunay.specs.declared.triangulation.Triangulation.{Triangulati
 use Rattle.dcel_planar.specs.Outcomes.{IsWholeMesh}
 use Rattle.lent_heap.specs.declared.heap.Heap.{Heap}
 use Rattle.mesh_page.specs.Held.{Kept}
+use Rattle.mesh_page.specs.declared.desk.Conversation.{Conversation}
 use Rattle.mesh_page.specs.declared.desk.Thing.{Thing}
-use Rattle.mesh_page.specs.declared.desk.Thing.TheVariants.{Constrained, Delaunay, Nothing}
+use Rattle.mesh_page.specs.declared.desk.Thing.TheVariants.{Constrained, Delaunay, Mesh, Nothing}
 use Rattle.mesh_page.specs.declared.holder.MeshPageKept.{MeshPageKept}
 use Rattle.std.specs.Prelude.{Option, None, Some, IsSome, ⊤}
 use denote.Ref.{Bor}
@@ -41,6 +42,7 @@ abbrev pub as_delaunay : Thing → Option State
 as_delaunay Nothing = None
 as_delaunay (Delaunay t) = Some t
 as_delaunay (Constrained t) = None
+as_delaunay (Mesh c) = None
 
 -- the Delaunay triangulation on the desk
 abbrev pub delaunay_in : MeshPageKept → Option State
@@ -50,10 +52,21 @@ abbrev pub as_constrained : Thing → Option Marked
 as_constrained Nothing = None
 as_constrained (Delaunay t) = None
 as_constrained (Constrained t) = Some t
+as_constrained (Mesh c) = None
 
 -- the constrained one
 abbrev pub constrained_in : MeshPageKept → Option Marked
 constrained_in k = as_constrained (thing_in k)
+
+abbrev pub as_mesh : Thing → Option Conversation
+as_mesh Nothing = None
+as_mesh (Delaunay t) = None
+as_mesh (Constrained t) = None
+as_mesh (Mesh c) = Some c
+
+-- the mesh that lines edit, with what the last one is answered
+abbrev pub mesh_in : MeshPageKept → Option Conversation
+mesh_in k = as_mesh (thing_in k)
 
 -- there is one, and this is so of it
 abbrev pub IsSo : {T : Type 0} → (T → Type 0) → Option T → Type 0
@@ -65,20 +78,23 @@ abbrev pub AreSo : {S T : Type 0} → (S → T → Type 0) → Option S → Opti
 AreSo holds None new = ⊥
 AreSo holds (Some old) new = IsSo (holds old) new
 
--- neither of them is on the desk
+-- no triangulation is on the desk
 abbrev pub HasNone : Thing → Type 0
 HasNone Nothing = ⊤
 HasNone (Delaunay t) = ⊥
 HasNone (Constrained t) = ⊥
+HasNone (Mesh c) = ⊤
 
 -- a triangulation is on the desk; the first is so of it, or if it is a constrained one the second
 abbrev pub IsEither : (State → Type 0) → (Marked → Type 0) → Thing → Type 0
 IsEither points among Nothing = ⊥
 IsEither points among (Delaunay t) = points t
 IsEither points among (Constrained t) = among t
+IsEither points among (Mesh c) = ⊥
 
 -- one was there and is there, of the same kind; the first is so of both, or the second
 abbrev pub AreEither : (State → State → Type 0) → (Marked → Marked → Type 0) → Thing → Thing → Type 0
 AreEither points among Nothing new = ⊥
 AreEither points among (Delaunay old) new = IsEither (points old) (λ t. ⊥) new
 AreEither points among (Constrained old) new = IsEither (λ t. ⊥) (among old) new
+AreEither points among (Mesh c) new = ⊥

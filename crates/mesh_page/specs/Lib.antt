@@ -1,5 +1,6 @@
 pub mod Changing
 pub mod Constraining
+pub mod Conversing
 pub mod Given
 pub mod Held
 pub mod Keeping

@@ -41,6 +41,7 @@ pub extern "C" fn mesh_page_can_add_constraint(
     match &kept.held.as_mut().thing {
         Thing::Constrained(points) => segments::can_add(points, from, to, answer),
         Thing::Delaunay(_) => NOT_KEPT,
+        Thing::Mesh(_) => NOT_KEPT,
         Thing::Nothing => NOT_KEPT,
     }
 }
@@ -63,6 +64,7 @@ pub extern "C" fn mesh_page_add_constraint(kept: &mut MeshPageKept, from: u32, t
     match &mut kept.held.as_mut().thing {
         Thing::Constrained(points) => segments::add(points, from, to),
         Thing::Delaunay(_) => NOT_KEPT,
+        Thing::Mesh(_) => NOT_KEPT,
         Thing::Nothing => NOT_KEPT,
     }
 }
@@ -92,6 +94,7 @@ pub extern "C" fn mesh_page_remove_constraint(
     match &mut kept.held.as_mut().thing {
         Thing::Constrained(points) => segments::free(points, from, to, was),
         Thing::Delaunay(_) => NOT_KEPT,
+        Thing::Mesh(_) => NOT_KEPT,
         Thing::Nothing => NOT_KEPT,
     }
 }
@@ -109,6 +112,7 @@ pub extern "C" fn mesh_page_exists_constraint(kept: &mut MeshPageKept, from: u32
     match &kept.held.as_mut().thing {
         Thing::Constrained(points) => segments::exists(points, from, to),
         Thing::Delaunay(_) => false,
+        Thing::Mesh(_) => false,
         Thing::Nothing => false,
     }
 }
@@ -143,6 +147,7 @@ pub extern "C" fn mesh_page_list_constraints(
             listing::list_constraints(heap, points, constraints, needed)
         }
         Thing::Delaunay(_) => NOT_KEPT,
+        Thing::Mesh(_) => NOT_KEPT,
         Thing::Nothing => NOT_KEPT,
     }
 }

@@ -85,6 +85,7 @@ pub extern "C" fn mesh_page_insert(
     match &mut kept.held.as_mut().thing {
         Thing::Delaunay(points) => changing::insert(points, point, vertex),
         Thing::Constrained(points) => among::insert(points, point, vertex),
+        Thing::Mesh(_) => NOT_KEPT,
         Thing::Nothing => NOT_KEPT,
     }
 }
@@ -119,6 +120,7 @@ pub extern "C" fn mesh_page_insert_all(
     match &mut desk.thing {
         Thing::Delaunay(kept) => changing::insert_all(heap, kept, points, vertices),
         Thing::Constrained(kept) => among::insert_all(heap, kept, points, vertices),
+        Thing::Mesh(_) => NOT_KEPT,
         Thing::Nothing => NOT_KEPT,
     }
 }
@@ -142,6 +144,7 @@ pub extern "C" fn mesh_page_remove(kept: &mut MeshPageKept, vertex: u32, moved: 
     match &mut kept.held.as_mut().thing {
         Thing::Delaunay(points) => changing::remove(points, vertex, moved),
         Thing::Constrained(points) => among::remove(points, vertex, moved),
+        Thing::Mesh(_) => NOT_KEPT,
         Thing::Nothing => NOT_KEPT,
     }
 }
@@ -164,6 +167,7 @@ pub extern "C" fn mesh_page_finish(kept: &mut MeshPageKept) -> u32
     match &mut kept.held.as_mut().thing {
         Thing::Delaunay(points) => changing::finish(points),
         Thing::Constrained(points) => among::finish(points),
+        Thing::Mesh(_) => NOT_KEPT,
         Thing::Nothing => NOT_KEPT,
     }
 }
@@ -199,6 +203,7 @@ pub extern "C" fn mesh_page_list_triangles(
     match &desk.thing {
         Thing::Delaunay(points) => listing::list_triangles(heap, points, triangles, needed),
         Thing::Constrained(points) => lists_among::list_triangles(heap, points, triangles, needed),
+        Thing::Mesh(_) => NOT_KEPT,
         Thing::Nothing => NOT_KEPT,
     }
 }
@@ -228,6 +233,7 @@ pub extern "C" fn mesh_page_nearest(
     match &kept.held.as_mut().thing {
         Thing::Delaunay(points) => listing::nearest(points, point, vertex),
         Thing::Constrained(points) => lists_among::nearest(points, point, vertex),
+        Thing::Mesh(_) => NOT_KEPT,
         Thing::Nothing => NOT_KEPT,
     }
 }

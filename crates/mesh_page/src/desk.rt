@@ -2,6 +2,7 @@
 
 use dcel_constrained::ConstrainedTriangulation;
 use dcel_delaunay::Triangulation;
+use dcel_replay::{Answer, Replay};
 use lent_heap::Heap;
 
 /// A Delaunay triangulation in memory of the host.
@@ -9,6 +10,14 @@ pub type Points = Triangulation<&'static Heap>;
 
 /// A constrained Delaunay triangulation in memory of the host.
 pub type Constrained = ConstrainedTriangulation<&'static Heap>;
+
+/// A mesh that lines edit, in memory of the host.
+#[derive(Drop)]
+pub struct Conversation {
+    pub(crate) replay: Replay<&'static Heap>,
+    /// What the last line is answered; `None` before the first one.
+    pub(crate) last: Option<Answer<&'static Heap>>,
+}
 
 /// What is kept.
 #[derive(Drop)]
@@ -19,6 +28,8 @@ pub enum Thing {
     Delaunay(Points),
     /// A constrained Delaunay triangulation.
     Constrained(Constrained),
+    /// A mesh that lines edit.
+    Mesh(Conversation),
 }
 
 /// What is kept, and the heap that it is in.

@@ -45,6 +45,15 @@ pub extern "C" fn mesh_page_picture(
 /// Returns the SVG of the mesh that the lines leave.
 fn drawn<A: Allocator + Copy>(alloc: A, lines: &[u8], style: Style) -> io::Result<Vec<u8, A>> {
     let replay = replayed(alloc, lines)?;
+    draw(alloc, &replay, style)
+}
+
+/// Returns the SVG of a mesh, with what an open removal has given up.
+pub(crate) fn draw<A: Allocator + Copy>(
+    alloc: A,
+    replay: &Replay<A>,
+    style: Style,
+) -> io::Result<Vec<u8, A>> {
     let (mesh, before) = (replay.mesh(), replay.before());
     let places = spread(alloc, mesh, before)?;
     let picture = Picture::new(alloc, mesh, before, &places)?;

@@ -14,7 +14,8 @@ pub(crate) const OUT_OF_RANGE: u32 = 3;
 /// No such thing is kept: none was made, or it was freed.
 pub(crate) const NOT_KEPT: u32 = 4;
 
-/// The triangulation isn't whole: there was no memory to flip all edges that have to be.
+/// The triangulation isn't whole: there was no memory to flip all edges that have to be. Or the reply to
+/// a line isn't written, though the mesh did what it says.
 pub(crate) const UNFINISHED: u32 = 5;
 
 /// No vertex has the number.

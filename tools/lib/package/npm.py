@@ -15,8 +15,9 @@ is only tested. `mesh.d.ts` has the types; `mesh.html` is a page that edits and 
 ```js
 {example}```
 
-`new Delaunay(coords)` has `triangles`, `halfedges` and `hull` as typed arrays, under delaunator's names. It is kept: points are inserted,
-moved and removed, `nearest(x, y)` finds one, and `free()` gives its memory back. `new ConstrainedDelaunay(coords, edges)` is one with edges that
+`new Mesh(lines)` is a mesh that is kept: `run(lines)` has it do what lines say and returns the replies, `picture()` draws it, and `free()` gives
+its memory back. `new Delaunay(coords)` has `triangles`, `halfedges` and `hull` as typed arrays, under delaunator's names. It is kept, too: points
+are inserted, moved and removed, `nearest(x, y)` finds one. `new ConstrainedDelaunay(coords, edges)` is one with edges that
 stay: `constraints`, `addConstraint(a, b)`, `removeConstraint(a, b)`. The other calls keep nothing.
 
 The engine must support WebAssembly memories with 64-bit addresses, or a call throws an error that says so. Node does from 24 on, and Node 20

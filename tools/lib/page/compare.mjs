@@ -7,11 +7,12 @@ import { arrayFaults } from './arrays.mjs';
 import { bufferFaults } from './buffers.mjs';
 import { constrainingFaults } from './constraining.mjs';
 import { keepingFaults } from './keeping.mjs';
+import { meshFaults } from './meshes.mjs';
 
 const ROOT = resolve(new URL('../../..', import.meta.url).pathname);
 const folder = resolve(process.argv[2]);
 const address = pathToFileURL(`${folder}/mesh.js`);
-const { replies, picture, triangulate, Delaunay, ConstrainedDelaunay } = await import(address);
+const { replies, picture, triangulate, Mesh, Delaunay, ConstrainedDelaunay } = await import(address);
 
 const faults = [], counts = { talks: 0, lines: 0, 'talks with a limit left out': 0, pictures: 0, triangulations: 0, 'large answers': 0, refusals: 0 };
 const read = file => readFileSync(`${ROOT}/${file}`, 'utf8');
@@ -34,7 +35,10 @@ function compareTalks() {
       }
       const isLine = row => row.startsWith('> ');
       const lines = rows.filter(isLine).map(row => `${row.slice(2)}\n`);
-      same(`${file}: ${name}`, replies(lines.join('')), rows.filter(row => !isLine(row)).map(row => `${row}\n`).join(''));
+      const wanted = rows.filter(row => !isLine(row)).map(row => `${row}\n`).join(''), mesh = new Mesh();
+      same(`${file}: ${name}`, replies(lines.join('')), wanted);
+      same(`${file}: ${name}, of a mesh that is kept`, lines.map(line => mesh.run(line)).join(''), wanted);
+      mesh.free();
       counts.talks++;
       counts.lines += lines.length;
     }
@@ -88,7 +92,7 @@ function compareRanges() {
 async function compareLacking() {
   const lacking = await import(`${address}?lacking`), { validate } = WebAssembly;
   WebAssembly.validate = () => false;
-  for (const call of [() => lacking.replies(''), () => lacking.picture(''), () => lacking.triangulate([]), () => new lacking.Delaunay([]), () => new lacking.ConstrainedDelaunay([])]) {
+  for (const call of [() => lacking.replies(''), () => lacking.picture(''), () => lacking.triangulate([]), () => new lacking.Mesh(), () => new lacking.Delaunay([]), () => new lacking.ConstrainedDelaunay([])]) {
     try {
       faults.push(`${call} needs no 64-bit memory: ${call()}`);
     } catch (error) {
@@ -109,7 +113,7 @@ compareLarge();
 compareRanges();
 const arrays = arrayFaults(Delaunay, faults);
 const calls = bufferFaults(readFileSync(`${folder}/mesh.wasm`), faults);
-const kept = { ...keepingFaults(Delaunay, faults), ...constrainingFaults(ConstrainedDelaunay, faults) };
+const kept = { ...keepingFaults(Delaunay, faults), ...constrainingFaults(ConstrainedDelaunay, faults), ...meshFaults({ Mesh, Delaunay, replies, picture }, faults) };
 const all = { ...counts, 'triangulations as arrays': arrays, ...kept, 'calls with a short buffer or little memory': calls };
 for (const [name, count] of Object.entries(all)) if (!count) faults.push(`there were no ${name} to try`);
 const told = Object.entries(all).map(([name, count]) => `${count} ${name}`);

@@ -1,5 +1,4 @@
 use Rattle.std.proofs.Common.{subst}
-use Rattle.dcel_constrained.specs.Constrained.{marked_mesh}
 use Rattle.dcel_delaunay.proofs.Standing.{nearest_in}
 use Rattle.mesh_page.specs.Listing.{IsNearestTo}
 use Rattle.mesh_page.proofs.constrained.listing.nearest.Goals as goal
