@@ -104,8 +104,8 @@ const OF_SQUARES: [(Change, u64); 3] = [
 /// Along the line, on it, beyond it, and beside it.
 const OF_THE_LINE: [(Change, u64); 5] = [
     (Change::Add((3, 0)), 0),
-    (Change::Insert((4, 2), 4), 8),
-    (Change::Insert((32, 16), 4), 8),
+    (Change::Insert((4, 2), 4), 7),
+    (Change::Insert((32, 16), 4), 7),
     (Change::Insert((7, 9), 4), 11),
     (Change::Free((0, 1)), 1),
 ];
@@ -157,12 +157,12 @@ const ROWS: [Row; 8] = [
     Row {
         places: &[],
         marked: &[],
-        changes: &[(Change::Insert((1, 1), 0), 8)],
+        changes: &[(Change::Insert((1, 1), 0), 1)],
     },
     Row {
         places: &[(0, 0)],
         marked: &[],
-        changes: &[(Change::Insert((1, 1), 1), 8), (Change::Add((0, 0)), 0)],
+        changes: &[(Change::Insert((1, 1), 1), 7), (Change::Add((0, 0)), 0)],
     },
 ];
 
