@@ -308,7 +308,7 @@ fn removals_inside_are_refused_memory(rt: HostRuntime) -> Result<(), Fail> {
     for row in &INSIDE {
         check_refused(row, 1, rt.alloc())?;
     }
-    // Where four edges are left, lists are made of what is given up.
+    // Where four edges are left, a new edge wants room too.
     for square in [0, 1, 3] {
         check_refused(&INSIDE[square], 3, rt.alloc())?;
     }
