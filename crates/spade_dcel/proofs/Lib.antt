@@ -1,3 +1,4 @@
+pub mod CutOff
 pub mod Gathering
 pub mod InnerFaces
 pub mod Linked

@@ -38,15 +38,21 @@ module _ {V DE UE F : Type 0} where
   filled-vertices m r (p ∷ q ∷ []) halves edges faces = refl
   filled-vertices m r (p ∷ q ∷ k ∷ rest) halves edges faces = refl
 
-  taken_out-vertices : (step : Mesh V DE UE F → ℕ → Mesh V DE UE F) → ((m : Mesh V DE UE F) (d : ℕ) → (step m d).vertex_data ≡ m.vertex_data)
-      → (m : Mesh V DE UE F) (ds : List ℕ) → (fold step m ds).vertex_data ≡ m.vertex_data
-  taken_out-vertices step keeps m [] = refl
-  taken_out-vertices step keeps m (d ∷ ds) = taken_out-vertices step keeps (step m d) ds ∙ keeps m d
+  taken_out-keeps : {X : Type 0} (part : Mesh V DE UE F → X) (step : Mesh V DE UE F → ℕ → Mesh V DE UE F)
+      → ((m : Mesh V DE UE F) (d : ℕ) → part (step m d) ≡ part m) → (m : Mesh V DE UE F) (ds : List ℕ) → part (fold step m ds) ≡ part m
+  taken_out-keeps part step keeps m [] = refl
+  taken_out-keeps part step keeps m (d ∷ ds) = taken_out-keeps part step keeps (step m d) ds ∙ keeps m d
 
-  cleaned-vertices : (m : Mesh V DE UE F) → (cleaned_up m).vertex_data ≡ m.vertex_data
+  pub cleaned-vertices : (m : Mesh V DE UE F) → (cleaned_up m).vertex_data ≡ m.vertex_data
   cleaned-vertices m =
-      taken_out-vertices face_taken_out (λ n d. refl) (edges_taken_out m (edges_down m.shape.removal)) (faces_down m.shape.removal)
-      ∙ taken_out-vertices edge_taken_out (λ n d. refl) m (edges_down m.shape.removal)
+      taken_out-keeps (λ (n : Mesh V DE UE F). n.vertex_data) face_taken_out (λ n d. refl) (edges_taken_out m (edges_down m.shape.removal)) (faces_down m.shape.removal)
+      ∙ taken_out-keeps (λ (n : Mesh V DE UE F). n.vertex_data) edge_taken_out (λ n d. refl) m (edges_down m.shape.removal)
+
+  -- nor how many there are
+  pub cleaned-count : (m : Mesh V DE UE F) → (cleaned_up m).shape.vertices ≡ m.shape.vertices
+  cleaned-count m =
+      taken_out-keeps (λ (n : Mesh V DE UE F). n.shape.vertices) face_taken_out (λ n d. refl) (edges_taken_out m (edges_down m.shape.removal)) (faces_down m.shape.removal)
+      ∙ taken_out-keeps (λ (n : Mesh V DE UE F). n.shape.vertices) edge_taken_out (λ n d. refl) m (edges_down m.shape.removal)
 
   -- where a removal is open
   module _ {s : Lists V DE UE F} {m : Mesh V DE UE F} (es fs : List ℕ) (v : ℕ) (held : Holds s (opened es fs v) m)

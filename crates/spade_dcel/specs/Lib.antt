@@ -1,3 +1,4 @@
+pub mod Corners
 pub mod Faces
 pub mod Handles
 pub mod Lending

@@ -41,8 +41,11 @@ pub use given::{
 };
 pub use line::extend_line;
 pub use outside::{create_new_face_adjacent_to_edge, create_single_face_between_edge_and_next};
-pub use remove::{remove_from_square, remove_from_triangle};
-pub use results::{IsolateVertexResult, RemovalResult, SquareRemovalResult, TriangleRemovalResult};
+pub use remove::{cut_off_corner, remove_from_square, remove_from_triangle};
+pub use results::{
+    CornerRemovalResult, IsolateVertexResult, RemovalResult, SquareRemovalResult,
+    TriangleRemovalResult,
+};
 pub use room::Room;
 pub use split::split_edge_when_all_vertices_on_line;
 pub use split_triangles::{split_edge, split_half_edge};

@@ -246,8 +246,9 @@ impl<V, DE, UE, F, A: Allocator> Dcel<V, DE, UE, F, A> {
 
     /// Returns whether a vertex of the outer face can be cut off along a strip.
     ///
-    /// This is what [`disconnect_edge_strip`](crate::operations::disconnect_edge_strip) asks: no
-    /// removal is open, and the list is a strip ([`is_edge_strip`](Self::is_edge_strip)).
+    /// This is what [`disconnect_edge_strip`](crate::operations::disconnect_edge_strip) and
+    /// [`cut_off_corner`](crate::operations::cut_off_corner) ask: no removal is open, and the list is
+    /// a strip ([`is_edge_strip`](Self::is_edge_strip)).
     pub fn can_disconnect_edge_strip(&self, list: &[FixedDirectedEdgeHandle]) -> bool
         ensures { let shape = self.now.shape in
             IsTrue result ↔ ((shape.removal ≡ Closed) × IsEdgeStrip shape list.now) }

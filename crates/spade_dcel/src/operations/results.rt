@@ -86,3 +86,17 @@ pub struct SquareRemovalResult<V> {
     /// last edge that is left, at first the new one, gets its number.
     pub removed_edges: [FixedUndirectedEdgeHandle; 4],
 }
+
+/// The result of cutting off a corner of the outer face.
+#[derive(Drop)]
+pub struct CornerRemovalResult<V, A: Allocator = Global> {
+    /// The datum of the vertex.
+    pub removed_vertex: V,
+
+    /// The old number of the vertex that got the freed number, if one did.
+    pub swapped_in_vertex: Option<FixedVertexHandle>,
+
+    /// The edges of the vertex, in ascending order. Each is taken out, the last one first, and the
+    /// last edge that is left gets its number.
+    pub removed_edges: Vec<FixedUndirectedEdgeHandle, A>,
+}

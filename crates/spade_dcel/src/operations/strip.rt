@@ -52,11 +52,27 @@ pub fn disconnect_edge_strip<V, DE, UE, F, A: Allocator + Clone, B: Allocator>(
     ensures refused { OnErr result (dcel.new ≡ dcel.old) }
     ensures mesh { IsMesh dcel.new }
 {
+    disconnect(dcel, &list)
+}
+
+// Cuts off the vertex whose strip this is.
+pub(super) fn disconnect<V, DE, UE, F, A: Allocator + Clone>(
+    dcel: &mut Dcel<V, DE, UE, F, A>,
+    list: &[FixedDirectedEdgeHandle],
+) -> Result<IsolateVertexResult<A>, AllocError>
+    requires closed { dcel.old.shape.removal ≡ Closed }
+    requires strip { IsEdgeStrip dcel.old.shape list.now }
+    ensures edit { OnOk result (dcel.new ≡ strip_cut dcel.old list.now) }
+    ensures edits { OnOk result (EditedBy (vertex_cut_off (length list.now)) dcel.old dcel.new) }
+    ensures answer { IfOk result (HasOpened (strip_edges dcel.old.shape list.now) (strip_faces dcel.old.shape list.now) [] 0) }
+    ensures refused { OnErr result (dcel.new ≡ dcel.old) }
+    ensures mesh { IsMesh dcel.new }
+{
     every_mesh(dcel);
     let Some((&last, others)) = list.split_last() else {
         unreachable!()
     };
-    let edges_to_remove = edges_before(dcel, &list)?;
+    let edges_to_remove = edges_before(dcel, list)?;
     let faces_to_remove = faces_beside(dcel, others)?;
     let new_edges = Vec::new(dcel.allocator().clone()?);
     cut(dcel, others, last, &edges_to_remove, &faces_to_remove)?;
