@@ -48,13 +48,29 @@ impl<A: Allocator + Clone> ConstrainedTriangulation<A> {
         ensures free { IfOk result (λ t. HasNoConstraint (marked_mesh t)) }
         ensures whole { IfOk result (λ t. IsWholeMesh t.planar) }
     {
-        let copy = triangulation.dcel().try_clone(alloc.clone()?)?;
+        let copy = triangulation.try_clone(alloc.clone()?)?;
+        Self::convert(copy, alloc)
+    }
+
+    /// Makes a constrained triangulation of a Delaunay triangulation, as
+    /// [`from_triangulation`](Self::from_triangulation) does, but of its own mesh: no mesh is copied.
+    ///
+    /// Asks for a whole triangulation ([`is_whole`](Triangulation::is_whole)). If memory runs out it
+    /// returns `AllocError`, and the triangulation is dropped.
+    pub fn convert(triangulation: Triangulation<A>, alloc: A) -> Result<Self, AllocError>
+        requires whole { IsWholeMesh triangulation.planar }
+        ensures points { IfOk result (λ t. (marked_mesh t).vertex_data ≡ (mesh_in triangulation).vertex_data) }
+        ensures shape { IfOk result (λ t. (marked_mesh t).shape ≡ (mesh_in triangulation).shape) }
+        ensures free { IfOk result (λ t. HasNoConstraint (marked_mesh t)) }
+        ensures whole { IfOk result (λ t. IsWholeMesh t.planar) }
+    {
         let due = Vec::new(alloc.clone()?);
         let crossed = Vec::new(alloc.clone()?);
         let free = |_datum: ()| -> Mark
             ensures { result ≡ Mark.Free }
         { Mark::Free };
-        let Ok(dcel) = copy.map_undirected_edges(alloc, free) else {
+        let mesh = triangulation.into_dcel();
+        let Ok(dcel) = mesh.map_undirected_edges(alloc, free) else {
             return Err(AllocError);
         };
         let planar = PlanarMesh { dcel, due };

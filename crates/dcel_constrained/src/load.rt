@@ -34,7 +34,7 @@ impl<A: Allocator + Clone> ConstrainedTriangulation<A> {
         ensures whole { IfOk result (λ t. IsWholeMesh t.planar) }
     {
         let none = Triangulation::new(alloc.clone()?)?;
-        Self::from_triangulation(&none, alloc)
+        Self::convert(none, alloc)
     }
 
     /// Makes a constrained triangulation of points and of segments between them, each of which is one

@@ -89,6 +89,15 @@ impl<A: Allocator> Triangulation<A> {
         &self.planar.dcel
     }
 
+    /// Returns the mesh, and gives up the triangulation: whatever is done with it then, no call here
+    /// relies on it.
+    pub fn into_dcel(self) -> Mesh<A>
+        ensures { result ≡ mesh_in self }
+    {
+        let planar = self.planar;
+        planar.dcel
+    }
+
     /// Returns whether no insertion or removal has left something undone for want of memory.
     pub fn is_whole(&self) -> bool
         ensures { IsTrue result ↔ IsWholeMesh self.now.planar }

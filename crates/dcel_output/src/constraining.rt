@@ -34,28 +34,29 @@ pub enum SegmentError {
 /// Makes a constrained triangulation of a Delaunay triangulation and of segments between points,
 /// each of which is a chain of constraints then; no other edges are constraints.
 ///
-/// The vertex of each point is given; a point that was removed has none. The vertices keep their
-/// points and numbers. Asks for a whole triangulation ([`is_whole`](Triangulation::is_whole)). The
-/// error names the first segment that has no two vertices or crosses an earlier one; it is
+/// It takes over the mesh of the triangulation. The vertex of each point is given; a point that was
+/// removed has none. The vertices keep their points and numbers.
+///
+/// Asks for a whole triangulation ([`is_whole`](Triangulation::is_whole)). The error names the first
+/// segment that has no two vertices or crosses an earlier one; it is
 /// [`OutOfMemory`](SegmentError::OutOfMemory) if memory or numbers run out.
 pub fn constrain<A: Allocator + Clone>(
     alloc: A,
-    triangulation: &Triangulation<A>,
+    triangulation: Triangulation<A>,
     vertices: &[Option<FixedVertexHandle>],
     segments: &[Segment],
 ) -> Result<ConstrainedTriangulation<A>, SegmentError>
-    requires { IsWholeMesh triangulation.now.planar }
-    ensures points { IfOk result (λ t. (marked_mesh t).vertex_data ≡ (mesh_in triangulation.now).vertex_data) }
+    requires { IsWholeMesh triangulation.planar }
+    ensures points { IfOk result (λ t. (marked_mesh t).vertex_data ≡ (mesh_in triangulation).vertex_data) }
     ensures chains { IfOk result (λ t. AreChains (marked_mesh t) vertices.now segments.now (length segments.now)) }
     ensures only { IfOk result (λ t. LieOnSegments (marked_mesh t) vertices.now segments.now (length segments.now)) }
-    ensures triangles { IfOk result (λ t. (points : List Point) (numbers : List ℕ) → NumbersVertices (mesh_in triangulation.now) points numbers
-        → AnswersEach (StandsThere (mesh_in triangulation.now)) points vertices.now → AreConstrainedTriangles points vertices.now segments.now (marked_mesh t) numbers) }
+    ensures triangles { IfOk result (λ t. (points : List Point) (numbers : List ℕ) → NumbersVertices (mesh_in triangulation) points numbers
+        → AnswersEach (StandsThere (mesh_in triangulation)) points vertices.now → AreConstrainedTriangles points vertices.now segments.now (marked_mesh t) numbers) }
     ensures whole { IfOk result (λ t. IsWholeMesh t.planar) }
-    ensures fails { IfErr result (FailsToConstrain (mesh_in triangulation.now) vertices.now segments.now) }
+    ensures fails { IfErr result (FailsToConstrain (mesh_in triangulation) vertices.now segments.now) }
 {
     every_mesh(triangulation.dcel());
-    let Ok(mut constrained) = ConstrainedTriangulation::from_triangulation(triangulation, alloc)
-    else {
+    let Ok(mut constrained) = ConstrainedTriangulation::convert(triangulation, alloc) else {
         return Err(SegmentError::OutOfMemory);
     };
     every_mesh(constrained.dcel());

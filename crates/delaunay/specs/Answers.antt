@@ -116,9 +116,9 @@ WritesNearest points places old new = (nearest : List (Option ℕ)) × AnswersEa
 
 -- the vertex of each point
 abbrev pub HasVertices : List Point → Drawn → Type 0
-HasVertices points d = AnswersEach (StandsThere (mesh_in d.triangulation)) points d.vertices.items
+HasVertices points d = AnswersEach (StandsThere (mesh_in d.triangulation)) points d.names.vertices.items
 
 -- a whole triangulation of the points, by their numbers
 pub record IsDrawn (points : List Point) (d : Drawn) : Type 0 where
   pub whole : IsWholeMesh d.triangulation.planar
-  pub numbered : NumbersVertices (mesh_in d.triangulation) points d.numbers.items
+  pub numbered : NumbersVertices (mesh_in d.triangulation) points d.names.numbers.items

@@ -55,7 +55,7 @@ pub fn answer<W: Write>(
         arguments.now task.now.points.items task.now.places.items (W.contents writer.old) (W.contents writer.new)) }
 {
     let drawn = triangulate(rt, progress, arguments, task)?;
-    answer_of(rt, writer, arguments, task, &drawn)
+    answer_of(rt, writer, arguments, task, drawn)
 }
 
 /// Writes what is asked for of a triangulation of the points that are left.
@@ -64,25 +64,25 @@ fn answer_of<W: Write>(
     writer: &mut W,
     arguments: &Arguments,
     task: &Task,
-    drawn: &Drawn,
+    drawn: Drawn,
 ) -> Result<(), Fault>
-    ensures triangles { OnOk result (AsksForTriangles arguments.now → IsDrawn task.now.points.items drawn.now
+    ensures triangles { OnOk result (AsksForTriangles arguments.now → IsDrawn task.now.points.items drawn
         → WritesTriangles task.now.points.items (W.contents writer.old) (W.contents writer.new)) }
-    ensures nearest { OnOk result (AsksForNearest arguments.now → IsDrawn task.now.points.items drawn.now
+    ensures nearest { OnOk result (AsksForNearest arguments.now → IsDrawn task.now.points.items drawn
         → WritesNearest task.now.points.items task.now.places.items (W.contents writer.old) (W.contents writer.new)) }
-    ensures plain { OnOk result ((output : Output) → AsksForPlain arguments.now output → IsDrawn task.now.points.items drawn.now
+    ensures plain { OnOk result ((output : Output) → AsksForPlain arguments.now output → IsDrawn task.now.points.items drawn
         → Writes (TellsDelaunay task.now.points.items output) arguments.now task.now.points.items task.now.places.items (W.contents writer.old) (W.contents writer.new)) }
-    ensures constrained { OnOk result ((output : Output) → AsksForConstrained arguments.now output → IsDrawn task.now.points.items drawn.now → HasVertices task.now.points.items drawn.now
+    ensures constrained { OnOk result ((output : Output) → AsksForConstrained arguments.now output → IsDrawn task.now.points.items drawn → HasVertices task.now.points.items drawn
         → Writes (TellsConstrained task.now.points.items (segments_of task.now.constraints.items task.now.outline.items) output)
         arguments.now task.now.points.items task.now.places.items (W.contents writer.old) (W.contents writer.new)) }
-    ensures inside { OnOk result ((output : Output) → AsksForInside arguments.now output → IsDrawn task.now.points.items drawn.now → HasVertices task.now.points.items drawn.now
+    ensures inside { OnOk result ((output : Output) → AsksForInside arguments.now output → IsDrawn task.now.points.items drawn → HasVertices task.now.points.items drawn
         → Writes (TellsInside task.now.points.items (segments_of task.now.constraints.items task.now.outline.items) (map segment_of task.now.outline.items) output)
         arguments.now task.now.points.items task.now.places.items (W.contents writer.old) (W.contents writer.new)) }
 {
     whole_meshes_are_delaunay(&drawn.triangulation);
     numbered_triangles_are_delaunay(&drawn.triangulation);
     nearest_numbers_are_nearest(&drawn.triangulation);
-    let nearest = find_nearest(rt, arguments, task, drawn)?;
+    let nearest = find_nearest(rt, arguments, task, &drawn)?;
     write_found(rt, writer, arguments, task, drawn, &nearest)
 }
 
@@ -92,15 +92,15 @@ fn write_found<W: Write>(
     writer: &mut W,
     arguments: &Arguments,
     task: &Task,
-    drawn: &Drawn,
+    drawn: Drawn,
     nearest: &[Option<u32>],
 ) -> Result<(), Fault>
     ensures plain { OnOk result (ChangesNothing arguments.now → IsStated arguments.now.output → Appends (W.contents writer.old) (W.contents writer.new)
-        (text_asked arguments.now.output (mesh_in drawn.now.triangulation) drawn.now.numbers.items None ++ lines_of nearest_line nearest.now)) }
-    ensures constrained { OnOk result ((output : Output) → AsksForConstrained arguments.now output → (points : List Point) → IsDrawn points drawn.now → HasVertices points drawn.now
+        (text_asked arguments.now.output (mesh_in drawn.triangulation) drawn.names.numbers.items None ++ lines_of nearest_line nearest.now)) }
+    ensures constrained { OnOk result ((output : Output) → AsksForConstrained arguments.now output → (points : List Point) → IsDrawn points drawn → HasVertices points drawn
         → WritesBefore (TellsConstrained points (segments_of task.now.constraints.items task.now.outline.items) output)
         (lines_of nearest_line nearest.now) (W.contents writer.old) (W.contents writer.new)) }
-    ensures inside { OnOk result ((output : Output) → AsksForInside arguments.now output → (points : List Point) → IsDrawn points drawn.now → HasVertices points drawn.now
+    ensures inside { OnOk result ((output : Output) → AsksForInside arguments.now output → (points : List Point) → IsDrawn points drawn → HasVertices points drawn
         → WritesBefore (TellsInside points (segments_of task.now.constraints.items task.now.outline.items) (map segment_of task.now.outline.items) output)
         (lines_of nearest_line nearest.now) (W.contents writer.old) (W.contents writer.new)) }
 {
@@ -116,26 +116,20 @@ fn answer_constrained<W: Write>(
     writer: &mut W,
     arguments: &Arguments,
     task: &Task,
-    drawn: &Drawn,
+    drawn: Drawn,
     nearest: &[Option<u32>],
 ) -> Result<(), Fault>
-    ensures constrained { OnOk result ((output : Output) → AsksForConstrained arguments.now output → (points : List Point) → IsDrawn points drawn.now → HasVertices points drawn.now
+    ensures constrained { OnOk result ((output : Output) → AsksForConstrained arguments.now output → (points : List Point) → IsDrawn points drawn → HasVertices points drawn
         → WritesBefore (TellsConstrained points (segments_of task.now.constraints.items task.now.outline.items) output)
         (lines_of nearest_line nearest.now) (W.contents writer.old) (W.contents writer.new)) }
-    ensures inside { OnOk result ((output : Output) → AsksForInside arguments.now output → (points : List Point) → IsDrawn points drawn.now → HasVertices points drawn.now
+    ensures inside { OnOk result ((output : Output) → AsksForInside arguments.now output → (points : List Point) → IsDrawn points drawn → HasVertices points drawn
         → WritesBefore (TellsInside points (segments_of task.now.constraints.items task.now.outline.items) (map segment_of task.now.outline.items) output)
         (lines_of nearest_line nearest.now) (W.contents writer.old) (W.contents writer.new)) }
 {
     let start = Instant::now(rt)?;
     let constrained = Constrained::of(rt.alloc(), arguments, task, drawn)?;
     tell_time(rt, arguments, start, " to put in constraints")?;
-    write_drawn(
-        rt,
-        writer,
-        arguments,
-        &constrained.view(task, drawn),
-        nearest,
-    )
+    write_drawn(rt, writer, arguments, &constrained.view(task), nearest)
 }
 
 /// Draws what is asked for, and writes it.

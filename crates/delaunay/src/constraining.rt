@@ -11,7 +11,7 @@ ghost use Rattle.delaunay.specs.Outlined.{IsInsideOf};
 ghost use Rattle.delaunay.specs.Segments.{segment_of, segments_of};
 
 use crate::arguments::Arguments;
-use crate::drawn::Drawn;
+use crate::drawn::{Drawn, Names};
 use crate::fault::{Fault, Wrong};
 use crate::outlining::inside;
 use crate::reading::in_file;
@@ -19,7 +19,7 @@ use crate::segments::segments_of;
 use crate::task::Task;
 use crate::view::{Inside, View};
 use dcel_constrained::ConstrainedTriangulation;
-use dcel_delaunay::InsertionError;
+use dcel_delaunay::{InsertionError, Triangulation};
 use dcel_output::{SegmentError, constrain};
 use dcel_regions::Mark;
 use std::alloc::{AllocError, Global};
@@ -29,6 +29,8 @@ use std::alloc::{AllocError, Global};
 pub struct Constrained {
     /// The triangulation.
     triangulation: ConstrainedTriangulation,
+    /// Which points are at its vertices.
+    names: Names,
     /// Which of its edges are marked.
     is_marked: Vec<bool>,
     /// What is inside the outline, if there is one.
@@ -41,34 +43,37 @@ impl Constrained {
         alloc: Global,
         arguments: &Arguments,
         task: &Task,
-        drawn: &Drawn,
+        drawn: Drawn,
     ) -> Result<Self, Fault>
-        ensures triangles { IfOk result (λ c. (points : List Point) → NumbersVertices (mesh_in drawn.now.triangulation) points drawn.now.numbers.items
-            → AnswersEach (StandsThere (mesh_in drawn.now.triangulation)) points drawn.now.vertices.items
-            → AreConstrainedTriangles points drawn.now.vertices.items (segments_of task.now.constraints.items task.now.outline.items) (marked_mesh c.triangulation) drawn.now.numbers.items) }
+        ensures numbers { IfOk result (λ c. c.names.numbers.items ≡ drawn.names.numbers.items) }
+        ensures triangles { IfOk result (λ c. (points : List Point) → NumbersVertices (mesh_in drawn.triangulation) points drawn.names.numbers.items
+            → AnswersEach (StandsThere (mesh_in drawn.triangulation)) points drawn.names.vertices.items
+            → AreConstrainedTriangles points drawn.names.vertices.items (segments_of task.now.constraints.items task.now.outline.items) (marked_mesh c.triangulation) drawn.names.numbers.items) }
         ensures all { IfOk result (λ c. arguments.now.outline ≡ None → c.inside ≡ None) }
         ensures inside { IfOk result (λ c. ¬ (arguments.now.outline ≡ None)
-            → IsInsideOf (marked_mesh c.triangulation) drawn.now.vertices.items (map segment_of task.now.outline.items) c.inside) }
+            → IsInsideOf (marked_mesh c.triangulation) drawn.names.vertices.items (map segment_of task.now.outline.items) c.inside) }
     {
-        let triangulation = triangulation_of(alloc, arguments, task, drawn)?;
-        let inside = inside_of(alloc, arguments, task, drawn, &triangulation)?;
+        let names = drawn.names;
+        let triangulation = triangulation_of(alloc, arguments, task, drawn.triangulation, &names)?;
+        let inside = inside_of(alloc, arguments, task, &names, &triangulation)?;
         let is_marked = marks(alloc, &triangulation)?;
         Ok(Constrained {
             triangulation,
+            names,
             is_marked,
             inside,
         })
     }
 
     /// Returns what is written and drawn of it.
-    pub fn view<'a>(&'a self, task: &'a Task, drawn: &'a Drawn) -> View<'a, Mark>
+    pub fn view<'a>(&'a self, task: &'a Task) -> View<'a, Mark>
         ensures mesh { result.mesh.now ≡ marked_mesh self.now.triangulation }
-        ensures numbers { result.numbers.now ≡ drawn.now.numbers.items }
+        ensures numbers { result.numbers.now ≡ self.now.names.numbers.items }
         ensures inside { option_copied result.inside ≡ self.now.inside }
     {
         View {
             mesh: self.triangulation.dcel(),
-            numbers: &drawn.numbers,
+            numbers: &self.names.numbers,
             points: &task.points,
             unit: task.unit,
             is_marked: Some(&self.is_marked),
@@ -83,18 +88,19 @@ pub fn triangulation_of(
     alloc: Global,
     arguments: &Arguments,
     task: &Task,
-    drawn: &Drawn,
+    triangulation: Triangulation,
+    names: &Names,
 ) -> Result<ConstrainedTriangulation, Fault>
-    ensures { IfOk result (λ t. (points : List Point) → NumbersVertices (mesh_in drawn.now.triangulation) points drawn.now.numbers.items
-        → AnswersEach (StandsThere (mesh_in drawn.now.triangulation)) points drawn.now.vertices.items
-        → AreConstrainedTriangles points drawn.now.vertices.items (segments_of task.now.constraints.items task.now.outline.items) (marked_mesh t) drawn.now.numbers.items) }
+    ensures { IfOk result (λ t. (points : List Point) → NumbersVertices (mesh_in triangulation) points names.now.numbers.items
+        → AnswersEach (StandsThere (mesh_in triangulation)) points names.now.vertices.items
+        → AreConstrainedTriangles points names.now.vertices.items (segments_of task.now.constraints.items task.now.outline.items) (marked_mesh t) names.now.numbers.items) }
 {
     // It is whole unless memory ran out.
-    if !drawn.triangulation.is_whole() {
+    if !triangulation.is_whole() {
         return Err(Fault::Input(Wrong::Insertion(InsertionError::Unfinished)));
     }
     let segments = segments_of(alloc, &task.constraints, &task.outline)?;
-    match constrain(alloc, &drawn.triangulation, &drawn.vertices, &segments) {
+    match constrain(alloc, triangulation, &names.vertices, &segments) {
         Ok(triangulation) => Ok(triangulation),
         Err(error) => Err(fault_of(alloc, arguments, task, error)),
     }
@@ -142,16 +148,16 @@ pub fn inside_of(
     alloc: Global,
     arguments: &Arguments,
     task: &Task,
-    drawn: &Drawn,
+    names: &Names,
     triangulation: &ConstrainedTriangulation,
 ) -> Result<Option<Inside>, Fault>
     ensures all { IfOk result (λ inside. arguments.now.outline ≡ None → inside ≡ None) }
     ensures inside { IfOk result (λ inside. ¬ (arguments.now.outline ≡ None)
-        → IsInsideOf (marked_mesh triangulation.now) drawn.now.vertices.items (map segment_of task.now.outline.items) inside) }
+        → IsInsideOf (marked_mesh triangulation.now) names.now.vertices.items (map segment_of task.now.outline.items) inside) }
 {
     match arguments.outline {
         None => Ok(None),
-        Some(path) => match inside(alloc, triangulation.dcel(), &drawn.vertices, &task.outline) {
+        Some(path) => match inside(alloc, triangulation.dcel(), &names.vertices, &task.outline) {
             Ok(inside) => Ok(Some(inside)),
             Err(fault) => Err(in_file(alloc, Some(path), fault)),
         },

@@ -17,11 +17,18 @@ use dcel_output::Triangulated;
 use spade_dcel::handles::FixedVertexHandle;
 use std::alloc::{AllocError, Global};
 
-/// A triangulation of the points that are left, and which of them stands at each vertex.
+/// A triangulation of the points that are left, and which of them are at its vertices.
 #[derive(Drop)]
 pub struct Drawn {
     /// The triangulation.
     pub triangulation: Triangulation,
+    /// Which points are at its vertices.
+    pub names: Names,
+}
+
+/// Which points are at the vertices of a triangulation.
+#[derive(Drop)]
+pub struct Names {
     /// The least number of a point that is left at each vertex.
     pub numbers: Vec<u32>,
     /// For each point the vertex at which it stands, if it or one that equals it is left. It has none
@@ -33,12 +40,12 @@ impl Drawn {
     /// Returns what is written and drawn of it.
     pub fn view<'a>(&'a self, task: &'a Task) -> View<'a, ()>
         ensures mesh { result.mesh.now ≡ mesh_in self.now.triangulation }
-        ensures numbers { result.numbers.now ≡ self.now.numbers.items }
+        ensures numbers { result.numbers.now ≡ self.now.names.numbers.items }
         ensures all { result.inside ≡ None }
     {
         View {
             mesh: self.triangulation.dcel(),
-            numbers: &self.numbers,
+            numbers: &self.names.numbers,
             points: &task.points,
             unit: task.unit,
             is_marked: None,
@@ -62,8 +69,10 @@ pub fn all_there(
     let vertices = vertices_asked_for(alloc, arguments, &inserted.vertices)?;
     Ok(Drawn {
         triangulation: inserted.triangulation,
-        numbers: inserted.numbers,
-        vertices,
+        names: Names {
+            numbers: inserted.numbers,
+            vertices,
+        },
     })
 }
 

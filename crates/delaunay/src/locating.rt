@@ -100,7 +100,7 @@ fn ends(drawn: &Drawn, edge: FixedDirectedEdgeHandle) -> io::Result<(u32, u32)> 
 
 /// Returns the number of the point at the vertex of this number.
 fn number(drawn: &Drawn, vertex: usize) -> io::Result<u32> {
-    match drawn.numbers.get(vertex) {
+    match drawn.names.numbers.get(vertex) {
         Some(number) => Ok(*number),
         None => Err(io::Error::other("a vertex has no point")),
     }

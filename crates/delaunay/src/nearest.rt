@@ -25,7 +25,7 @@ pub fn find_nearest(
     drawn: &Drawn,
 ) -> Result<Vec<Option<u32>>, Fault>
     ensures none { IfOk result (λ list. arguments.now.nearest ≡ None → list.items ≡ []) }
-    ensures each { IfOk result (λ list. ¬ (arguments.now.nearest ≡ None) → AnswersEach (IsNearestNumbered (mesh_in drawn.now.triangulation) drawn.now.numbers.items) task.now.places.items list.items) }
+    ensures each { IfOk result (λ list. ¬ (arguments.now.nearest ≡ None) → AnswersEach (IsNearestNumbered (mesh_in drawn.now.triangulation) drawn.now.names.numbers.items) task.now.places.items list.items) }
 {
     match arguments.nearest {
         None => Ok(Vec::new(rt.alloc())),
@@ -40,7 +40,7 @@ fn find_each(
     task: &Task,
     drawn: &Drawn,
 ) -> Result<Vec<Option<u32>>, Fault>
-    ensures { IfOk result (λ list. AnswersEach (IsNearestNumbered (mesh_in drawn.now.triangulation) drawn.now.numbers.items) task.now.places.items list.items) }
+    ensures { IfOk result (λ list. AnswersEach (IsNearestNumbered (mesh_in drawn.now.triangulation) drawn.now.names.numbers.items) task.now.places.items list.items) }
 {
     let start = Instant::now(rt)?;
     let nearest = nearest_points(rt.alloc(), drawn, &task.places)?;
@@ -50,12 +50,12 @@ fn find_each(
 
 /// Returns for each of some places the number of a point that is nearest to it, if there is a point.
 fn nearest_points(alloc: Global, drawn: &Drawn, places: &[Point]) -> Result<Vec<Option<u32>>, Fault>
-    ensures { IfOk result (λ list. AnswersEach (IsNearestNumbered (mesh_in drawn.now.triangulation) drawn.now.numbers.items) places.now list.items) }
+    ensures { IfOk result (λ list. AnswersEach (IsNearestNumbered (mesh_in drawn.now.triangulation) drawn.now.names.numbers.items) places.now list.items) }
 {
     if !drawn.triangulation.is_whole() {
         return Err(Fault::Input(Wrong::Insertion(InsertionError::Unfinished)));
     }
-    match nearest_numbers(alloc, &drawn.triangulation, &drawn.numbers, places) {
+    match nearest_numbers(alloc, &drawn.triangulation, &drawn.names.numbers, places) {
         Ok(numbers) => Ok(numbers),
         Err(error) => Err(Fault::OutOfMemory(error)),
     }

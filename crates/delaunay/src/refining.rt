@@ -3,7 +3,7 @@
 use crate::answering::write_drawn;
 use crate::arguments::Arguments;
 use crate::constraining::{inside_of, marks, triangulation_of};
-use crate::drawn::Drawn;
+use crate::drawn::{Drawn, Names};
 use crate::fault::{Fault, Wrong};
 use crate::limits::Limits;
 use crate::splitting::split_triangulation_of;
@@ -12,7 +12,7 @@ use crate::timing::tell_time;
 use crate::triangulating::triangulate;
 use crate::view::{Inside, View};
 use dcel_constrained::{ConstrainedTriangulation, ConstraintError};
-use dcel_delaunay::{InsertionError, Point, lists};
+use dcel_delaunay::{InsertionError, Point, Triangulation, lists};
 use dcel_planar::point_of;
 use dcel_programs::Progress;
 use dcel_refinement::{RefinementParameters, are_refined, refine_faces};
@@ -51,7 +51,7 @@ pub fn answer_refined<W: Write>(
     limits: Option<Limits>,
 ) -> Result<(), Fault> {
     let drawn = triangulate(rt, progress, arguments, task)?;
-    let refinement = refinement_of(rt, arguments, task, &drawn, limits)?;
+    let refinement = refinement_of(rt, arguments, task, names, limits)?;
     write_refinement(rt, writer, arguments, task, &refinement)
 }
 
@@ -60,11 +60,12 @@ fn refinement_of(
     rt: &(impl Clock + Eprint + AllocGlobal),
     arguments: &Arguments,
     task: &Task,
-    drawn: &Drawn,
+    drawn: Drawn,
     limits: Option<Limits>,
 ) -> Result<Refinement, Fault> {
-    let triangulation = laid_in_time(rt, arguments, task, drawn)?;
-    Refinement::of(rt, arguments, task, drawn, triangulation, limits)
+    let names = drawn.names;
+    let triangulation = laid_in_time(rt, arguments, task, drawn.triangulation, &names)?;
+    Refinement::of(rt, arguments, task, &names, triangulation, limits)
 }
 
 /// Writes what is asked for, and reports how many points were added, or that some triangle isn't as
@@ -91,21 +92,21 @@ impl Refinement {
         rt: &(impl Clock + Eprint + AllocGlobal),
         arguments: &Arguments,
         task: &Task,
-        drawn: &Drawn,
+        names: &Names,
         triangulation: ConstrainedTriangulation,
         limits: Option<Limits>,
     ) -> Result<Self, Fault> {
         let mut triangulation = triangulation;
         match limits {
-            None => Refinement::whole(rt.alloc(), arguments, task, drawn, triangulation),
+            None => Refinement::whole(rt.alloc(), arguments, task, names, triangulation),
             Some(limits) => {
                 let parameters = limits.parameters(task.unit);
-                refine_in_time(rt, arguments, task, drawn, &mut triangulation, &parameters)?;
+                refine_in_time(rt, arguments, task, names, &mut triangulation, &parameters)?;
                 let mut whole = Refinement::whole(
                     rt.alloc(),
                     arguments,
                     task,
-                    drawn,
+                    names,
                     triangulation,
                 )?;
                 let mesh = whole.triangulation.dcel();
@@ -121,13 +122,13 @@ impl Refinement {
         alloc: Global,
         arguments: &Arguments,
         task: &Task,
-        drawn: &Drawn,
+        names: &Names,
         triangulation: ConstrainedTriangulation,
     ) -> Result<Self, Fault> {
-        let inside = inside(alloc, arguments, task, drawn, &triangulation)?;
+        let inside = inside(alloc, arguments, task, names, &triangulation)?;
         Ok(Refinement {
-            numbers: numbers(alloc, task, drawn, &triangulation)?,
-            points: points(alloc, task, drawn, &triangulation)?,
+            numbers: numbers(alloc, task, names, &triangulation)?,
+            points: points(alloc, task, names, &triangulation)?,
             is_marked: marks(alloc, &triangulation)?,
             triangulation,
             inside,
@@ -155,10 +156,11 @@ fn laid_in_time(
     rt: &(impl Clock + Eprint + AllocGlobal),
     arguments: &Arguments,
     task: &Task,
-    drawn: &Drawn,
+    triangulation: Triangulation,
+    names: &Names,
 ) -> Result<ConstrainedTriangulation, Fault> {
     let start = Instant::now(rt)?;
-    let triangulation = laid(rt.alloc(), arguments, task, drawn)?;
+    let triangulation = laid(rt.alloc(), arguments, task, triangulation, names)?;
     match tell_time(rt, arguments, start, " to put in constraints") {
         Ok(()) => Ok(triangulation),
         Err(fault) => Err(fault),
@@ -170,7 +172,7 @@ fn refine_in_time(
     rt: &(impl Clock + Eprint + AllocGlobal),
     arguments: &Arguments,
     task: &Task,
-    drawn: &Drawn,
+    names: &Names,
     triangulation: &mut ConstrainedTriangulation,
     parameters: &RefinementParameters,
 ) -> Result<(), Fault> {
@@ -179,7 +181,7 @@ fn refine_in_time(
         rt.alloc(),
         arguments,
         task,
-        drawn,
+        names,
         triangulation,
         parameters,
     )?;
@@ -191,12 +193,13 @@ fn laid(
     alloc: Global,
     arguments: &Arguments,
     task: &Task,
-    drawn: &Drawn,
+    triangulation: Triangulation,
+    names: &Names,
 ) -> Result<ConstrainedTriangulation, Fault> {
     if arguments.splits_crossings {
-        split_triangulation_of(alloc, arguments, task, drawn)
+        split_triangulation_of(alloc, arguments, task, triangulation, names)
     } else {
-        triangulation_of(alloc, arguments, task, drawn)
+        triangulation_of(alloc, arguments, task, triangulation, names)
     }
 }
 
@@ -205,7 +208,7 @@ fn refine(
     alloc: Global,
     arguments: &Arguments,
     task: &Task,
-    drawn: &Drawn,
+    names: &Names,
     triangulation: &mut ConstrainedTriangulation,
     parameters: &RefinementParameters,
 ) -> Result<(), Fault> {
@@ -213,7 +216,7 @@ fn refine(
         let hull = lists::hull(alloc, triangulation.dcel())?;
         add_border(triangulation, &hull)?;
     }
-    let inside = inside(alloc, arguments, task, drawn, triangulation)?;
+    let inside = inside(alloc, arguments, task, names, triangulation)?;
     match refine_faces(triangulation, alloc, parameters, &inside.triangles) {
         Ok(()) => Ok(()),
         Err(error) => Err(Fault::Input(Wrong::Insertion(error))),
@@ -241,10 +244,10 @@ fn inside(
     alloc: Global,
     arguments: &Arguments,
     task: &Task,
-    drawn: &Drawn,
+    names: &Names,
     triangulation: &ConstrainedTriangulation,
 ) -> Result<Inside, Fault> {
-    match inside_of(alloc, arguments, task, drawn, triangulation)? {
+    match inside_of(alloc, arguments, task, names, triangulation)? {
         Some(inside) => Ok(inside),
         None => Ok(all_inside(alloc, triangulation)?),
     }
@@ -271,13 +274,13 @@ fn all_inside(
 fn numbers(
     alloc: Global,
     task: &Task,
-    drawn: &Drawn,
+    names: &Names,
     triangulation: &ConstrainedTriangulation,
 ) -> Result<Vec<u32>, Fault> {
     let mut numbers = Vec::new(alloc);
-    numbers.extend_from_slice(&drawn.numbers)?;
+    numbers.extend_from_slice(&names.numbers)?;
     let mut next = task.points.len();
-    for _vertex in drawn.numbers.len()..triangulation.dcel().num_vertices() {
+    for _vertex in names.numbers.len()..triangulation.dcel().num_vertices() {
         let Ok(number) = u32::try_from(next) else {
             return Err(Fault::Input(Wrong::Insertion(InsertionError::TooManyPoints)));
         };
@@ -291,12 +294,12 @@ fn numbers(
 fn points(
     alloc: Global,
     task: &Task,
-    drawn: &Drawn,
+    names: &Names,
     triangulation: &ConstrainedTriangulation,
 ) -> Result<Vec<Point>, AllocError> {
     let mut points = Vec::new(alloc);
     points.extend_from_slice(&task.points)?;
-    for vertex in triangulation.dcel().vertices().skip(drawn.numbers.len()) {
+    for vertex in triangulation.dcel().vertices().skip(names.numbers.len()) {
         points.push(point_of(vertex))?;
     }
     Ok(points)

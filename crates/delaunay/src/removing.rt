@@ -1,20 +1,11 @@
 //! Points removed.
 
-use crate::drawn::Drawn;
+use crate::drawn::{Drawn, Names};
 use crate::fault::{Fault, Wrong};
 use dcel_delaunay::Triangulation;
 use dcel_output::Triangulated;
 use spade_dcel::handles::FixedVertexHandle;
 use std::alloc::{AllocError, Global};
-
-/// Which points are left.
-#[derive(Drop)]
-struct Left {
-    /// The least number of one at each vertex.
-    numbers: Vec<u32>,
-    /// For each point the vertex at which it stands, if it or one that equals it is left.
-    vertices: Vec<Option<FixedVertexHandle>>,
-}
 
 /// Returns what is drawn once points are removed, and with them the vertices at which none is left.
 pub fn without_removed(
@@ -23,28 +14,27 @@ pub fn without_removed(
     is_removed: &[bool],
 ) -> Result<Drawn, Fault> {
     let mut triangulation = inserted.triangulation;
-    let left = remove(alloc, &mut triangulation, &inserted.vertices, is_removed)?;
+    let names = remove(alloc, &mut triangulation, &inserted.vertices, is_removed)?;
     Ok(Drawn {
         triangulation,
-        numbers: left.numbers,
-        vertices: left.vertices,
+        names,
     })
 }
 
-/// Removes the vertices at which no point is left, and returns what is.
+/// Removes the vertices at which no point is left, and returns which points are.
 fn remove(
     alloc: Global,
     triangulation: &mut Triangulation,
     vertices: &[FixedVertexHandle],
     is_removed: &[bool],
-) -> Result<Left, Fault> {
+) -> Result<Names, Fault> {
     let count = triangulation.dcel().num_vertices();
     let mut numbers = least_left(alloc, vertices, is_removed, count)?;
     let least = least_of_each(alloc, vertices, &numbers)?;
     remove_bare(alloc, triangulation, &mut numbers)?;
     let numbers = all_of(alloc, &numbers)?;
     let vertices = vertices_of_points(alloc, triangulation, &numbers, &least)?;
-    Ok(Left { numbers, vertices })
+    Ok(Names { numbers, vertices })
 }
 
 /// Returns the least number of a point that isn't to be removed, at each of so many vertices.

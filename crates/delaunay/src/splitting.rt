@@ -5,14 +5,14 @@ ghost use Rattle.dcel_predicates.specs.Wide.{number_of};
 
 use crate::arguments::Arguments;
 use crate::constraining::at_line;
-use crate::drawn::Drawn;
+use crate::drawn::Names;
 use crate::fault::{Fault, Wrong};
 use crate::fraction::Fraction;
 use crate::segments::segments_of;
 use crate::task::Task;
 use crate::unit::Unit;
 use dcel_constrained::{ConstrainedTriangulation, ConstraintError, Crossing, Segment};
-use dcel_delaunay::InsertionError;
+use dcel_delaunay::{InsertionError, Triangulation};
 use dcel_predicates::Wide;
 use spade_dcel::handles::{FixedUndirectedEdgeHandle, FixedVertexHandle};
 use std::alloc::Global;
@@ -23,19 +23,17 @@ pub fn split_triangulation_of(
     alloc: Global,
     arguments: &Arguments,
     task: &Task,
-    drawn: &Drawn,
+    triangulation: Triangulation,
+    names: &Names,
 ) -> Result<ConstrainedTriangulation, Fault> {
     // It is whole unless memory ran out.
-    if !drawn.triangulation.is_whole() {
+    if !triangulation.is_whole() {
         return Err(Fault::Input(Wrong::Insertion(InsertionError::Unfinished)));
     }
     let segments = segments_of(alloc, &task.constraints, &task.outline)?;
-    let mut triangulation = ConstrainedTriangulation::from_triangulation(
-        &drawn.triangulation,
-        alloc,
-    )?;
+    let mut triangulation = ConstrainedTriangulation::convert(triangulation, alloc)?;
     for (number, segment) in segments.iter().enumerate() {
-        if let Err(wrong) = lay(&mut triangulation, &drawn.vertices, *segment, task.unit) {
+        if let Err(wrong) = lay(&mut triangulation, &names.vertices, *segment, task.unit) {
             return Err(at_line(alloc, arguments, task, number, wrong));
         }
     }

@@ -32,7 +32,7 @@ loop-number-preserved g c =
 
 pub returns-in_err-lay-clause-fails : goal.returns-in_err-lay-clause-fails
 returns-in_err-lay-clause-fails g c =
-    let first = mesh_in c.args.triangulation.now in
+    let first = mesh_in c.args.triangulation in
     let m = marked_mesh c.loop-number.constrained in
     let segments = c.args.segments.now in
     let n = c.loop-number.number in
@@ -57,7 +57,7 @@ returns-clause-only g c =
 
 pub returns-clause-triangles : goal.returns-clause-triangles
 returns-clause-triangles g c = λ points numbers numbered stand.
-    let first = mesh_in c.args.triangulation.now in
+    let first = mesh_in c.args.triangulation in
     let m = marked_mesh c.loop-number.constrained in
     let segments = c.args.segments.now in
     let vertices = c.args.vertices.now in

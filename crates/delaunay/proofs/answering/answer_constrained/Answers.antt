@@ -12,7 +12,7 @@ returns-clause-constrained g c =
     let t = own.constrained in
     let view = c.view.result in
     let m = marked_mesh t.triangulation in
-    let numbers = c.args.drawn.now.numbers.items in
+    let numbers = c.args.drawn.names.numbers.items in
     let near = lines_of nearest_line c.args.nearest.now in
     let given = c.args.arguments.now.output in
     on_ok_weaker c.write_drawn.result
@@ -21,7 +21,7 @@ returns-clause-constrained g c =
     (asked _ _ near given m numbers t.inside
     (seen _ _ near given view.mesh.now m view.numbers.now numbers (option_copied view.inside) t.inside c.view.ensures.mesh c.view.ensures.numbers c.view.ensures.inside text)
     output asks.asks.is asks.asks.listed)
-    points c.args.drawn.now.vertices.items _ (own.ensures.triangles points drawn.numbered vertices) (own.ensures.all asks.outline))
+    points c.args.drawn.names.vertices.items _ (own.ensures.triangles points drawn.numbered vertices) (own.ensures.all asks.outline))
     c.write_drawn.ensures
 
 pub returns-clause-inside : goal.returns-clause-inside
@@ -30,7 +30,7 @@ returns-clause-inside g c =
     let t = own.constrained in
     let view = c.view.result in
     let m = marked_mesh t.triangulation in
-    let numbers = c.args.drawn.now.numbers.items in
+    let numbers = c.args.drawn.names.numbers.items in
     let near = lines_of nearest_line c.args.nearest.now in
     let given = c.args.arguments.now.output in
     on_ok_weaker c.write_drawn.result
@@ -39,5 +39,5 @@ returns-clause-inside g c =
     (asked _ _ near given m numbers t.inside
     (seen _ _ near given view.mesh.now m view.numbers.now numbers (option_copied view.inside) t.inside c.view.ensures.mesh c.view.ensures.numbers c.view.ensures.inside text)
     output asks.asks.is asks.asks.listed)
-    points c.args.drawn.now.vertices.items _ (own.ensures.triangles points drawn.numbered vertices) _ (own.ensures.inside asks.outline))
+    points c.args.drawn.names.vertices.items _ (own.ensures.triangles points drawn.numbered vertices) _ (own.ensures.inside asks.outline))
     c.write_drawn.ensures

@@ -9,8 +9,8 @@ use Rattle.delaunay.proofs.answering.answer_of.Goals as goal
 
 pub returns-clause-triangles : goal.returns-clause-triangles
 returns-clause-triangles g c =
-    let m : Points = c.args.drawn.now.triangulation.planar.dcel in
-    let numbers = c.args.drawn.now.numbers.items in
+    let m : Points = c.args.drawn.triangulation.planar.dcel in
+    let numbers = c.args.drawn.names.numbers.items in
     let points = c.args.task.now.points.items in
     let near = c.deref.result.now in
     on_ok_weaker c.write_found.result
@@ -21,8 +21,8 @@ returns-clause-triangles g c =
 
 pub returns-clause-nearest : goal.returns-clause-nearest
 returns-clause-nearest g c =
-    let m : Points = c.args.drawn.now.triangulation.planar.dcel in
-    let numbers = c.args.drawn.now.numbers.items in
+    let m : Points = c.args.drawn.triangulation.planar.dcel in
+    let numbers = c.args.drawn.names.numbers.items in
     let points = c.args.task.now.points.items in
     let near = c.deref.result.now in
     on_ok_weaker c.write_found.result
@@ -35,11 +35,11 @@ returns-clause-nearest g c =
     c.write_found.ensures.plain
 
 -- the nearest points are those of the points, if they are asked for
-are_nearest : (g : _) (c : goal.After-drop-nearest g) → IsDrawn c.args.task.now.points.items c.args.drawn.now
+are_nearest : (g : _) (c : goal.After-drop-nearest g) → IsDrawn c.args.task.now.points.items c.args.drawn
     → AreNearest c.args.arguments.now c.args.task.now.points.items c.args.task.now.places.items c.deref.result.now
 are_nearest g c drawn =
-    let m : Points = c.args.drawn.now.triangulation.planar.dcel in
-    let numbers = c.args.drawn.now.numbers.items in
+    let m : Points = c.args.drawn.triangulation.planar.dcel in
+    let numbers = c.args.drawn.names.numbers.items in
     let points = c.args.task.now.points.items in
     below points c.args.task.now.places.items m numbers c.deref.result.now
     (c.nearest_numbers_are_nearest.ensures points numbers drawn.whole drawn.numbered) c.args.arguments.now
@@ -48,8 +48,8 @@ are_nearest g c drawn =
 
 pub returns-clause-plain : goal.returns-clause-plain
 returns-clause-plain g c =
-    let m : Points = c.args.drawn.now.triangulation.planar.dcel in
-    let numbers = c.args.drawn.now.numbers.items in
+    let m : Points = c.args.drawn.triangulation.planar.dcel in
+    let numbers = c.args.drawn.names.numbers.items in
     let points = c.args.task.now.points.items in
     let near = c.deref.result.now in
     on_ok_weaker c.write_found.result

@@ -12,10 +12,10 @@ returns-then-has_constraints-clause-plain g c = any_ok c.answer_constrained.resu
 
 pub returns-clause-plain : goal.returns-clause-plain
 returns-clause-plain g c =
-    let m : Points = c.args.drawn.now.triangulation.planar.dcel in
+    let m : Points = c.args.drawn.triangulation.planar.dcel in
     let view = c.view.result in
     on_ok_weaker c.write_drawn.result
-    (λ text plain. seen _ _ (lines_of nearest_line c.args.nearest.now) c.args.arguments.now.output view.mesh.now m view.numbers.now c.args.drawn.now.numbers.items
+    (λ text plain. seen _ _ (lines_of nearest_line c.args.nearest.now) c.args.arguments.now.output view.mesh.now m view.numbers.now c.args.drawn.names.numbers.items
     (option_copied view.inside) None c.view.ensures.mesh c.view.ensures.numbers (ap option_copied c.view.ensures.all) text)
     c.write_drawn.ensures
 

@@ -20,7 +20,7 @@ pub returns-in-Ok-clause-inside : goal.returns-in-Ok-clause-inside
 returns-in-Ok-clause-inside c = λ some.
     let flags = c.in-Ok.inside.triangles.items in
     let m = marked_mesh c.args.triangulation.now in
-    let vertices = c.args.drawn.now.vertices.items in (
+    let vertices = c.args.names.now.vertices.items in (
       c.in-Ok.inside,
       refl,
       subst (λ (l : List Join). ListsInside m vertices (map segment_of l) flags) c.deref-in-Some.ensures.value

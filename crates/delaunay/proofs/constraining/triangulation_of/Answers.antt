@@ -11,8 +11,8 @@ use Rattle.delaunay.proofs.constraining.triangulation_of.Goals as goal
 pub returns-in-Ok : goal.returns-in-Ok
 returns-in-Ok c = λ points numbered stand.
     let t = marked_mesh c.in-Ok.triangulation in
-    let m = mesh_in c.args.drawn.now.triangulation in
-    let numbers = c.args.drawn.now.numbers.items in
+    let m = mesh_in c.args.triangulation in
+    let numbers = c.args.names.now.numbers.items in
     let vertices = c.deref-3.ensures.value in
     let segments : c.deref-4.result.now ≡ segments_of c.args.task.now.constraints.items c.args.task.now.outline.items =
     c.deref-4.ensures.value ∙ c.in_ok-segments.ensures ∙ ap (λ (l : List Join). segments_of l c.deref-2.result.now) c.deref.ensures.value

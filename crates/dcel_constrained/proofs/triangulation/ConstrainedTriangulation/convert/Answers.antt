@@ -5,11 +5,11 @@ use Rattle.dcel_delaunay.proofs.Listed.{settled}
 use Rattle.dcel_planar.proofs.Whole.{either_outside}
 use Rattle.dcel_constrained.proofs.Copied.{copied_outline, copied_sound, none_marked}
 use Rattle.dcel_constrained.proofs.Settled.{triangulated_of}
-use Rattle.dcel_constrained.proofs.triangulation.ConstrainedTriangulation.from_triangulation.Goals as goal
+use Rattle.dcel_constrained.proofs.triangulation.ConstrainedTriangulation.convert.Goals as goal
 
 pub invariant_of-planar : goal.invariant_of-planar
 invariant_of-planar g c =
-    let t = c.args.triangulation.now in
+    let t = c.args.triangulation in
     let whole : IsTriangulation (mesh_in t) = settled t.planar t.listed c.requires.whole in
     let shape : c.in-Ok.dcel.shape ≡ (mesh_in t).shape = search rules in
     let points : c.in-Ok.dcel.vertex_data ≡ (mesh_in t).vertex_data = search rules in
@@ -21,7 +21,7 @@ invariant_of-planar g c =
 
 pub invariant_of-result-clause-listed : goal.invariant_of-result-clause-listed
 invariant_of-result-clause-listed g c =
-    let t = c.args.triangulation.now in
+    let t = c.args.triangulation in
     let whole : IsTriangulation (mesh_in t) = settled t.planar t.listed c.requires.whole in
     let shape : c.in-Ok.dcel.shape ≡ (mesh_in t).shape = search rules in
     let points : c.in-Ok.dcel.vertex_data ≡ (mesh_in t).vertex_data = search rules in
@@ -29,4 +29,4 @@ invariant_of-result-clause-listed g c =
 
 pub returns-clause-free : goal.returns-clause-free
 returns-clause-free g c u marked =
-    none_marked _ (λ x k is. is) c.in_ok-copy.copy.undirected_data c.in-Ok.dcel.undirected_data c.in-Ok.ensures.answered u marked
+    none_marked _ (λ x k is. is) c.into_dcel-mesh.result.undirected_data c.in-Ok.dcel.undirected_data c.in-Ok.ensures.answered u marked
