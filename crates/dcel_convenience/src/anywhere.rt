@@ -41,7 +41,7 @@ pub enum WayOut {
 ///
 /// - A vertex without edges goes alone, as by [`swap_remove_vertex`].
 /// - Inside triangles, the first of its out edges that can be is collapsed, by [`collapse_edge`].
-/// - On the border its edges and triangles go, as by [`disconnect_edge_strip`]; what is left gets no
+/// - On the border its edges and triangles go, as by [`cut_off_corner`]; what is left gets no
 ///   new element. That includes a vertex with one edge or one triangle.
 /// - Of a mesh that is a single edge, the edge goes too.
 ///
@@ -55,7 +55,7 @@ pub enum WayOut {
 /// Any vertex may be given. It is refused as [`WhyNotRemoved`] says, and then the mesh is as it
 /// was. `alloc` is for the list of half edges around the vertex.
 ///
-/// [`disconnect_edge_strip`]: spade_dcel::operations::disconnect_edge_strip
+/// [`cut_off_corner`]: spade_dcel::operations::cut_off_corner
 /// [`SecondEdge`]: WhyNotRemoved::SecondEdge
 /// [`LongFace`]: WhyNotRemoved::LongFace
 pub fn remove_any_vertex<

@@ -13,9 +13,7 @@ use spade_dcel::dcel::Dcel;
 use spade_dcel::handles::{DirectedEdgeHandle, FixedDirectedEdgeHandle, FixedVertexHandle};
 use spade_dcel::iterators::{CCWEdgesNextBackFn, CircularIterator};
 use spade_dcel::laws::every_mesh;
-use spade_dcel::operations::{
-    RemovalResult, cleanup_isolated_vertex, disconnect_edge_strip, swap_remove_vertex,
-};
+use spade_dcel::operations::{RemovalResult, cut_off_corner};
 use std::alloc::{AllocError, Allocator};
 
 /// Cuts off the vertex where an outer half edge starts, with the triangles around it.
@@ -39,11 +37,13 @@ pub(crate) fn cut_off<V, DE: Drop, UE: Drop, F: Drop, A: Allocator + Clone, B: A
     let Ok(strip) = strip_around(alloc, dcel.directed_edge(outside)) else {
         return Err(AllocError);
     };
-    let Ok(mut opened) = disconnect_edge_strip(dcel, strip) else {
+    let Ok(removed) = cut_off_corner(dcel, &strip) else {
         return Err(AllocError);
     };
-    cleanup_isolated_vertex(dcel, &mut opened);
-    Ok(swap_remove_vertex(dcel, vertex))
+    Ok(RemovalResult {
+        removed_vertex: removed.removed_vertex,
+        swapped_in_vertex: removed.swapped_in_vertex,
+    })
 }
 
 // Returns the strip of the vertex where an outer half edge starts.
