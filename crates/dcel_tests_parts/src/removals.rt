@@ -63,11 +63,12 @@ fn holes_are_filled(rt: HostRuntime) -> Result<(), Fail> {
 }
 
 /// The vertex of a fan leaves a path.
-const PATHS: [Removal; 4] = [
+const PATHS: [Removal; 5] = [
     (1, false, 0, 2, [2, 2, 1]),
     (2, false, 0, 3, [3, 4, 1]),
     (3, false, 0, 4, [4, 6, 1]),
     (40, false, 0, 41, [41, 80, 1]),
+    (1000, false, 0, 1001, [1001, 2000, 1]),
 ];
 
 #[test]
