@@ -148,12 +148,6 @@ module _ {DE UE F : Type 0} (stays : UE → Bool) (is_half : DE → Type 0) (is_
   mid_edges : mid.shape.edges ≡ m.shape.edges + (length border - 3)
   mid_edges = (let k = known.edges in let many = filled.round.many in omega (arith, k, many))
 
-  points_same : (cleaned_up mid).vertex_data ≡ m.vertex_data
-  points_same = (cleaned_is mid mid_mesh).points ∙ known.points
-
-  vertices_same : (cleaned_up mid).shape.vertices ≡ m.shape.vertices
-  vertices_same = (cleaned_is mid mid_mesh).vertices ∙ known.vertices
-
   -- what is on a new face is along the border, or new
   along : (i h : ℕ) → 0 < count_of h (word_of mid.shape.words (face_count m.shape + i)) → (0 < count_of h (reverse border)) ⊎ ((3 < length border) × (h / 2 ≡ m.shape.edges))
   along i h =
@@ -205,8 +199,6 @@ pub record IsFromRing {DE UE F : Type 0} (stays : UE → Bool) (m new : Mesh Poi
   pub clean : IsMesh (cleaned_up mid)
   pub named : IsListed mid.shape.removal (edges_at m v) (faces_at m v)
   pub edges : mid.shape.edges ≡ m.shape.edges + (length border - 3)
-  pub points : (cleaned_up mid).vertex_data ≡ m.vertex_data
-  pub vertices : (cleaned_up mid).shape.vertices ≡ m.shape.vertices
   pub given : IsEmptied stays m mid v before after
   pub is : new ≡ vertex_taken_out (cleaned_up mid) v
 
@@ -224,8 +216,6 @@ module _ {DE UE F : Type 0} (stays : UE → Bool) (is_half : DE → Type 0) (is_
         clean = clean_mesh stays is_half is_edge is_face m new mesh before sound v thin border filled few room removes;
         named = mid_named stays is_half is_edge is_face m new mesh before sound v thin border filled few room removes;
         edges = mid_edges stays is_half is_edge is_face m new mesh before sound v thin border filled few room removes;
-        points = points_same stays is_half is_edge is_face m new mesh before sound v thin border filled few room removes;
-        vertices = vertices_same stays is_half is_edge is_face m new mesh before sound v thin border filled few room removes;
         given =
             listed_but stays is_half is_edge is_face m new mesh before sound v thin border filled few room removes fresh is_fresh loose spokes (list ++ fresh) are
             (around_enough m mesh v thin border filled list around fresh spokes are);

@@ -20,7 +20,7 @@ use Rattle.dcel_plane.specs.hull.Straight.{IsStraight}
 use Rattle.dcel_plane.proofs.removal.Renumbering.{cleanup_keeps, cleanup_lists, cleanup_straight, cleanup_was_inner, taken_out_keeps, taken_out_lists, taken_out_straight, taken_out_was_inner}
 use Rattle.dcel_planar.specs.Growing.{HasHull, IsFlat, IsJoined}
 use Rattle.dcel_planar.specs.Legalization.{ListsLoose}
-use Rattle.dcel_delaunay.specs.Removing.{IsEmptied, Loses}
+use Rattle.dcel_delaunay.specs.Removing.{IsEmptied, Loses, TakesOut}
 use Rattle.dcel_delaunay.specs.Staying.{LeavesLegal, LosesNoneStaying, StaysBetween}
 use Rattle.dcel_delaunay.specs.declared.removed.Removed.{Removed}
 use Rattle.dcel_delaunay.proofs.Emptied.{at_points}
@@ -198,3 +198,15 @@ module _ {DE UE F : Type 0} (stays : UE → Bool) (old mid new : Mesh Point DE U
   pub taken_loses : (r : Removed) → r.point ≡ slice_index_or (cleaned_up mid).vertex_data v r.point
       → r.moved ≡ cond (v == (cleaned_up mid).shape.vertices - 1) None (Some ((cleaned_up mid).shape.vertices - 1)) → Loses old new v r
   taken_loses r point moves = subst (λ (k : Mesh Point DE UE F). Loses old k v r) (sym is) (removed_loses stays old mid v before due given below many clean done r point moves)
+
+  -- all of it
+  pub taken : (r : Removed) → r.point ≡ slice_index_or old.vertex_data v r.point → r.moved ≡ cond (v == old.shape.vertices - 1) None (Some (old.shape.vertices - 1))
+      → TakesOut stays old new v before items r
+  taken r point moves = record {
+    loses =
+        taken_loses r (point ∙ ap (λ (points : List Point). slice_index_or points v r.point) (sym (points_are stays old mid v before due given below many clean done)))
+        (moves ∙ ap (λ k. cond (v == k - 1) None (Some (k - 1))) (sym (vertices_are stays old mid v before due given below many clean done)));
+    sound = taken_sound;
+    staying = taken_staying;
+    hull = taken_hull;
+  }

@@ -17,13 +17,13 @@ use Rattle.dcel_plane.specs.hull.Straight.{IsStraight}
 use Rattle.spade_dcel.specs.Opened.{HasOpened}
 use Rattle.dcel_plane.specs.removal.Wheels.{CanFlipInPlane, MakesTwo}
 use Rattle.dcel_planar.specs.Corners.{StartsOutside}
-use Rattle.dcel_planar.specs.Growing.{HasHull, Keeps}
+use Rattle.dcel_planar.specs.Growing.{HasHull, IsFlat, Keeps}
 use Rattle.dcel_planar.specs.Leaving.{IsSame}
 use Rattle.dcel_planar.specs.Legalization.{ListsLoose}
 use Rattle.dcel_planar.specs.Outcomes.{IsWholeMesh, KeepsWhole}
 use Rattle.dcel_planar.specs.Places.{HasPoint, IsOnLine}
 use Rattle.dcel_planar.specs.declared.planar.PlanarMesh.{PlanarMesh}
-use Rattle.dcel_delaunay.specs.Staying.{KeepsOthersStaying}
+use Rattle.dcel_delaunay.specs.Staying.{KeepsOthersStaying, LeavesLegal, LosesNoneStaying}
 use Rattle.dcel_delaunay.specs.declared.errors.RemovalError.{RemovalError}
 use Rattle.dcel_delaunay.specs.declared.errors.RemovalError.TheVariants.{NoVertex, OutOfMemory, TooManyPoints, Unfinished}
 use Rattle.dcel_delaunay.specs.declared.remove.border.Border.{Border}
@@ -125,7 +125,14 @@ module _ {DE UE F : Type 0} (stays : UE → Bool) where
     pub left : HasOutline new ⊎ IsStrung new
     pub staying : KeepsOthersStaying stays old new v
 
-  -- the same, and the result names what is given up
+  -- v is taken out, and the list has each edge that is to be looked at; edges that have to stay are left
+  pub record TakesOut (old new : Mesh Point DE UE F) (v : ℕ) (before after : List ℕ) (removed : Removed) : Type 0 where
+    pub loses : Loses old new v removed
+    pub sound : LeavesLegal stays old new before after
+    pub staying : LosesNoneStaying stays old new v
+    pub hull : IsFlat new ⊎ HasHull new
+
+  -- the vertex is given up, and the result names what is given up with it
   pub record IsGivenUp {A : Type 0} (old new : Mesh Point DE UE F) (v : ℕ) (before after : List ℕ) (opened : IsolateVertexResult A) : Type 0 where
     pub emptied : IsEmptied old new v before after
     pub named : IsListed new.shape.removal opened.edges_to_remove.items opened.faces_to_remove.items

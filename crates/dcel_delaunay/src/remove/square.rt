@@ -1,10 +1,10 @@
 //! A vertex with four edges removed from a square.
 
-ghost use Rattle.std.specs.Prelude.{◌≡◌, ◌⊎◌, IfOk, OnErr, OnOk, length, vec_capacity, vec_len};
+ghost use Rattle.std.specs.Prelude.{◌≡◌, IfOk, OnErr, length, vec_capacity, vec_len};
 ghost use Rattle.dcel_maps.specs.Conditions.{HasRoom};
-ghost use Rattle.dcel_planar.specs.Growing.{HasHull, IsFlat, IsTriangleMesh};
-ghost use Rattle.dcel_delaunay.specs.Removing.{IsFilled, IsThinnedOut, Loses};
-ghost use Rattle.dcel_delaunay.specs.Staying.{LeavesLegal, LosesNoneStaying};
+ghost use Rattle.dcel_planar.specs.Growing.{IsTriangleMesh};
+ghost use Rattle.dcel_delaunay.specs.Removing.{IsFilled, IsThinnedOut, TakesOut};
+ghost use Rattle.dcel_delaunay.specs.Staying.{LeavesLegal};
 ghost use Rattle.dcel_delaunay.specs.Thinning.{HasPlaces, ListsAround, with_spokes};
 
 use crate::free::FreeByDefault;
@@ -34,10 +34,8 @@ pub(crate) fn take_from_square<UE: FreeByDefault + Drop, A: Allocator, L: Alloca
     requires room { HasRoom dcel.old.shape 0 1 2 }
     requires around { ListsAround dcel.old.shape vertex (with_spokes dcel.old vertex due.old.items) }
     requires places { HasPlaces dcel.old vertex (vec_len due.old) (vec_capacity due.old) }
-    ensures loses { IfOk result (Loses dcel.old dcel.new vertex) }
-    ensures sound { LeavesLegal UE.is_constraint dcel.old dcel.new (with_spokes dcel.old vertex due.old.items) due.new.items }
-    ensures staying { OnOk result (LosesNoneStaying UE.is_constraint dcel.old dcel.new vertex) }
-    ensures hull { OnOk result (IsFlat dcel.new ⊎ HasHull dcel.new) }
+    ensures taken { IfOk result (TakesOut UE.is_constraint dcel.old dcel.new vertex (with_spokes dcel.old vertex due.old.items) due.new.items) }
+    ensures still { OnErr result (LeavesLegal UE.is_constraint dcel.old dcel.new (with_spokes dcel.old vertex due.old.items) due.new.items) }
     ensures refused { OnErr result (dcel.new ≡ dcel.old) }
 {
     every_mesh(dcel);

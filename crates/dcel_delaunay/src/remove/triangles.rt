@@ -4,7 +4,7 @@ ghost use Rattle.std.specs.Prelude.{◌≡◌, ◌⊎◌, ◌<◌, IfErr, IfOk, 
 ghost use Rattle.dcel_maps.specs.Conditions.{HasRoom};
 ghost use Rattle.dcel_planar.specs.Corners.{StartsOutside};
 ghost use Rattle.dcel_planar.specs.Growing.{HasHull, IsFlat, IsTriangleMesh, Keeps};
-ghost use Rattle.dcel_delaunay.specs.Removing.{IsFilled, IsInnerVertex, IsThinnedOut, Loses};
+ghost use Rattle.dcel_delaunay.specs.Removing.{IsFilled, IsInnerVertex, IsThinnedOut, Loses, TakesOut};
 ghost use Rattle.dcel_delaunay.specs.Staying.{HasConstraintAt, KeepsStaying, LeavesLegal, LosesNoneStaying};
 ghost use Rattle.dcel_delaunay.specs.Thinning.{HasPlaces, ListsAround, with_spokes};
 
@@ -63,10 +63,8 @@ fn take_thinned<UE: FreeByDefault + Drop, A: Allocator + Clone, L: Allocator>(
     requires room { HasRoom dcel.old.shape 0 1 2 }
     requires around { ListsAround dcel.old.shape vertex (with_spokes dcel.old vertex due.old.items) }
     requires places { HasPlaces dcel.old vertex (vec_len due.old) (vec_capacity due.old) }
-    ensures loses { IfOk result (Loses dcel.old dcel.new vertex) }
-    ensures sound { LeavesLegal UE.is_constraint dcel.old dcel.new (with_spokes dcel.old vertex due.old.items) due.new.items }
-    ensures staying { OnOk result (LosesNoneStaying UE.is_constraint dcel.old dcel.new vertex) }
-    ensures hull { OnOk result (IsFlat dcel.new ⊎ HasHull dcel.new) }
+    ensures taken { IfOk result (TakesOut UE.is_constraint dcel.old dcel.new vertex (with_spokes dcel.old vertex due.old.items) due.new.items) }
+    ensures still { OnErr result (LeavesLegal UE.is_constraint dcel.old dcel.new (with_spokes dcel.old vertex due.old.items) due.new.items) }
     ensures refused { OnErr result (dcel.new ≡ dcel.old) }
 {
     match border_of(dcel, vertex) {

@@ -1,10 +1,10 @@
-use Rattle.std.proofs.Common.{◌≡◌, ℕ, ◌-◌, ◌==◌, ap, arith, cond, List, None, slice_index_or, Some, subst, sym, ◌∙◌}
+use Rattle.std.proofs.Common.{◌≡◌, ℕ, ◌-◌, arith, List, subst, sym}
 use Rattle.dcel_maps.specs.edits.Fill.{edges_at, faces_at}
 use Rattle.dcel_planar.specs.Legalization.{ListsLoose}
 use Rattle.dcel_delaunay.proofs.FromRing.{from_triangle}
 use Rattle.dcel_delaunay.proofs.Lost.{more_vertices}
 use Rattle.dcel_delaunay.proofs.Renaming.{listed_fits, renamed_as}
-use Rattle.dcel_delaunay.proofs.TakenOut.{taken_hull, taken_loses, taken_sound, taken_staying}
+use Rattle.dcel_delaunay.proofs.TakenOut.{taken}
 use Rattle.dcel_delaunay.specs.Thinning.{with_spokes}
 use Rattle.dcel_delaunay.proofs.remove.triangle.take_from_triangle.Goals as goal
 
@@ -21,8 +21,8 @@ renumber-requires g c =
     listed_fits ring.mid ring.mesh (edges_at m c.args.vertex) (faces_at m c.args.vertex) spokes c.num_undirected_edges-count.result ring.named c.in-Ok.ensures.edges
     (omega (arith, three, edges, count))
 
-pub returns-clause-sound : goal.returns-clause-sound
-returns-clause-sound g c =
+pub returns-clause-taken : goal.returns-clause-taken
+returns-clause-taken g c =
     let m = c.args.dcel.now in
     let spokes = c.in-Ok.taken.removed_edges in
     let ring =
@@ -34,66 +34,15 @@ returns-clause-sound g c =
     let renamed =
     renamed_as ring.mid.shape (edges_at m c.args.vertex) (faces_at m c.args.vertex) spokes c.args.due.now.items c.renumber.new.due.items c.num_undirected_edges-count.result ring.named c.in-Ok.ensures.edges
     (omega (arith, three, edges, count)) c.renumber.ensures in
-    taken_sound _ m ring.mid c.remove_from_triangle.new.dcel c.args.vertex (with_spokes m c.args.vertex c.args.due.now.items) c.args.due.now.items c.renumber.new.due.items ring.given c.requires.thin.below
-    (more_vertices m c.every_mesh.ensures c.requires.sound c.requires.thin.hull) ring.clean c.in-Ok.ensures.mesh ring.is renamed
-
-pub returns-clause-hull : goal.returns-clause-hull
-returns-clause-hull g c =
-    let m = c.args.dcel.now in
-    let spokes = c.in-Ok.taken.removed_edges in
-    let ring =
-    from_triangle g.UE.EdgeConstraint.is_constraint _ _ _ m c.remove_from_triangle.new.dcel c.every_mesh.ensures c.requires.sound c.args.vertex c.requires.thin c.args.border.now c.requires.border
-    c.in-Ok.ensures.edit g.met.UE.FreeByDefault.default_is_free spokes c.args.due.now.items c.in-Ok.ensures.edges c.requires.around c.requires.three c.requires.room in
-    let three = c.requires.three in
-    let edges = ring.edges in
-    let count = c.num_undirected_edges-count.ensures.count in
-    let renamed =
-    renamed_as ring.mid.shape (edges_at m c.args.vertex) (faces_at m c.args.vertex) spokes c.args.due.now.items c.renumber.new.due.items c.num_undirected_edges-count.result ring.named c.in-Ok.ensures.edges
-    (omega (arith, three, edges, count)) c.renumber.ensures in
-    taken_hull _ m ring.mid c.remove_from_triangle.new.dcel c.args.vertex (with_spokes m c.args.vertex c.args.due.now.items) c.args.due.now.items c.renumber.new.due.items ring.given c.requires.thin.below
-    (more_vertices m c.every_mesh.ensures c.requires.sound c.requires.thin.hull) ring.clean c.in-Ok.ensures.mesh ring.is renamed
-
-pub returns-clause-staying : goal.returns-clause-staying
-returns-clause-staying g c =
-    let m = c.args.dcel.now in
-    let spokes = c.in-Ok.taken.removed_edges in
-    let ring =
-    from_triangle g.UE.EdgeConstraint.is_constraint _ _ _ m c.remove_from_triangle.new.dcel c.every_mesh.ensures c.requires.sound c.args.vertex c.requires.thin c.args.border.now c.requires.border
-    c.in-Ok.ensures.edit g.met.UE.FreeByDefault.default_is_free spokes c.args.due.now.items c.in-Ok.ensures.edges c.requires.around c.requires.three c.requires.room in
-    let three = c.requires.three in
-    let edges = ring.edges in
-    let count = c.num_undirected_edges-count.ensures.count in
-    let renamed =
-    renamed_as ring.mid.shape (edges_at m c.args.vertex) (faces_at m c.args.vertex) spokes c.args.due.now.items c.renumber.new.due.items c.num_undirected_edges-count.result ring.named c.in-Ok.ensures.edges
-    (omega (arith, three, edges, count)) c.renumber.ensures in
-    taken_staying _ m ring.mid c.remove_from_triangle.new.dcel c.args.vertex (with_spokes m c.args.vertex c.args.due.now.items) c.args.due.now.items c.renumber.new.due.items ring.given c.requires.thin.below
-    (more_vertices m c.every_mesh.ensures c.requires.sound c.requires.thin.hull) ring.clean c.in-Ok.ensures.mesh ring.is renamed
-
-pub returns-clause-loses : goal.returns-clause-loses
-returns-clause-loses g c =
-    let m = c.args.dcel.now in
-    let spokes = c.in-Ok.taken.removed_edges in
-    let ring =
-    from_triangle g.UE.EdgeConstraint.is_constraint _ _ _ m c.remove_from_triangle.new.dcel c.every_mesh.ensures c.requires.sound c.args.vertex c.requires.thin c.args.border.now c.requires.border
-    c.in-Ok.ensures.edit g.met.UE.FreeByDefault.default_is_free spokes c.args.due.now.items c.in-Ok.ensures.edges c.requires.around c.requires.three c.requires.room in
-    let point = c.in-Ok.taken.removed_vertex in
-    let three = c.requires.three in
-    let edges = ring.edges in
-    let count = c.num_undirected_edges-count.ensures.count in
-    let renamed =
-    renamed_as ring.mid.shape (edges_at m c.args.vertex) (faces_at m c.args.vertex) spokes c.args.due.now.items c.renumber.new.due.items c.num_undirected_edges-count.result ring.named c.in-Ok.ensures.edges
-    (omega (arith, three, edges, count)) c.renumber.ensures in
-    taken_loses _ m ring.mid c.remove_from_triangle.new.dcel c.args.vertex (with_spokes m c.args.vertex c.args.due.now.items) c.args.due.now.items c.renumber.new.due.items ring.given c.requires.thin.below
-    (more_vertices m c.every_mesh.ensures c.requires.sound c.requires.thin.hull) ring.clean c.in-Ok.ensures.mesh ring.is renamed _
-    (c.in-Ok.ensures.datum ∙ ap (λ l. slice_index_or l c.args.vertex point) (sym ring.points))
-    (c.in-Ok.ensures.moved ∙ ap (λ n. cond (c.args.vertex == n - 1) None (Some (n - 1))) (sym ring.vertices))
+    taken _ m ring.mid c.remove_from_triangle.new.dcel c.args.vertex (with_spokes m c.args.vertex c.args.due.now.items) c.args.due.now.items c.renumber.new.due.items ring.given c.requires.thin.below
+    (more_vertices m c.every_mesh.ensures c.requires.sound c.requires.thin.hull) ring.clean c.in-Ok.ensures.mesh ring.is renamed _ c.in-Ok.ensures.datum c.in-Ok.ensures.moved
 
 -- where memory runs out, the edges of the vertex are listed
 pub list_spokes-requires-clause-places : goal.list_spokes-requires-clause-places
 list_spokes-requires-clause-places g c = rw c.in_default.ensures.refused c.requires.places
 
-pub returns-in_default-clause-sound : goal.returns-in_default-clause-sound
-returns-in_default-clause-sound g c =
+pub returns-in_default-clause-still : goal.returns-in_default-clause-still
+returns-in_default-clause-still g c =
     let m = c.args.dcel.now in
     let list = c.list_spokes.new.due.items in
     let listed : list ≡ with_spokes m c.args.vertex c.args.due.now.items = rw c.in_default.ensures.refused at c.list_spokes.ensures in

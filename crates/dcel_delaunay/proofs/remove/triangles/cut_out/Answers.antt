@@ -23,25 +23,28 @@ returns-clause-sound g c =
     let mid = c.thin_out.new.dcel in
     let list = with_spokes mid c.args.vertex c.thin_out.new.due.items in
     legal_trans _ c.args.dcel.now mid c.take_thinned.new.dcel c.args.due.now.items list c.take_thinned.new.due.items
-    c.in_ok-thin_out.ensures.thinning.thinned.sound c.take_thinned.ensures.sound
+    c.in_ok-thin_out.ensures.thinning.thinned.sound c.in_ok-removed.ensures.taken.sound
+
+pub returns-clause-hull : goal.returns-clause-hull
+returns-clause-hull g c = c.in_ok-removed.ensures.taken.hull
 
 pub returns-in_err-removed-clause-sound : goal.returns-in_err-removed-clause-sound
 returns-in_err-removed-clause-sound g c =
     let mid = c.thin_out.new.dcel in
     let list = with_spokes mid c.args.vertex c.thin_out.new.due.items in
     legal_trans _ c.args.dcel.now mid c.take_thinned.new.dcel c.args.due.now.items list c.take_thinned.new.due.items
-    c.in_ok-thin_out.ensures.thinning.thinned.sound c.take_thinned.ensures.sound
+    c.in_ok-thin_out.ensures.thinning.thinned.sound c.in_err-removed.ensures.still
 
 pub returns-clause-loses : goal.returns-clause-loses
 returns-clause-loses g c =
     let thinned = c.in_ok-thin_out.ensures.thinning.thinned in
     lost_before c.args.dcel.now c.thin_out.new.dcel c.take_thinned.new.dcel c.args.vertex c.in_ok-removed.removed thinned.keeps.points thinned.keeps.vertices
-    c.in_ok-removed.ensures.loses
+    c.in_ok-removed.ensures.taken.loses
 
 pub returns-clause-staying : goal.returns-clause-staying
 returns-clause-staying g c =
     let thinned = c.in_ok-thin_out.ensures.thinning.thinned in
-    lost_staying _ c.args.dcel.now c.thin_out.new.dcel c.take_thinned.new.dcel c.args.vertex thinned.keeps.vertices thinned.staying c.in_ok-removed.ensures.staying
+    lost_staying _ c.args.dcel.now c.thin_out.new.dcel c.take_thinned.new.dcel c.args.vertex thinned.keeps.vertices thinned.staying c.in_ok-removed.ensures.taken.staying
 
 pub returns-in_err-removed-clause-keeps : goal.returns-in_err-removed-clause-keeps
 returns-in_err-removed-clause-keeps g c =
