@@ -213,6 +213,26 @@ fn copies_are_refused_memory(rt: HostRuntime) -> Result<(), Fail> {
     refuse_copies(&memory)
 }
 
+/// Makes a constrained triangulation of a triangulation's own mesh, with the request of this number
+/// refused. Returns whether there was memory, and how many requests came.
+fn convert(memory: Memory, number: u64) -> Result<(bool, u64), Fail> {
+    let triangulation = numbered(&SQUARES, memory)?;
+    require!(triangulation.is_whole());
+    memory.refuse(Refusals::One(number));
+    let is_made = ConstrainedTriangulation::convert(triangulation, memory).is_ok();
+    let requests = memory.requests();
+    memory.refuse(Refusals::None);
+    Ok((is_made, requests))
+}
+
+/// The marks of the edges take the only request: the mesh isn't copied.
+#[test]
+fn conversions_are_refused_memory(rt: HostRuntime) -> Result<(), Fail> {
+    let memory = Refusing::new(rt.alloc());
+    same(convert(&memory, 0)?, (false, 1), "refused")?;
+    same(convert(&memory, 1)?, (true, 1), "not refused")
+}
+
 /// Returns how many faces have each of the numbers 0, 1 and 2.
 fn tally(numbers: &[usize]) -> [usize; 3] {
     let mut counts = [0usize; 3];
