@@ -89,8 +89,7 @@ impl<A: Allocator> Triangulation<A> {
         &self.planar.dcel
     }
 
-    /// Returns the mesh, and gives up the triangulation: whatever is done with it then, no call here
-    /// relies on it.
+    /// Returns the mesh, and gives up the triangulation. The mesh may then be changed in any way.
     pub fn into_dcel(self) -> Mesh<A>
         ensures { result ≡ mesh_in self }
     {
