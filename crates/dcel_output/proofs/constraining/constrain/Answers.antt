@@ -8,6 +8,16 @@ use Rattle.dcel_output.specs.Constraining.{AreChains, LieOnSegments}
 use Rattle.dcel_output.proofs.Chained.{chains_more, fails_then, numbers_kept, on_more, stand_still}
 use Rattle.dcel_output.proofs.constraining.constrain.Goals as goal
 
+pub loop-number-init : goal.loop-number-init
+loop-number-init g c = record {
+  whole = c.in-Ok.ensures.whole;
+  mesh = subst (λ (k : _). IsMesh k) c.dcel-2.ensures.mesh c.every_mesh-2.ensures;
+  points = c.in-Ok.ensures.points;
+  chains = λ i s below. absurd (omega (arith, below));
+  only = λ u marked. absurd (c.in-Ok.ensures.free u marked);
+  within = omega arith;
+}
+
 pub loop-number-preserved : goal.loop-number-preserved
 loop-number-preserved g c =
     let old = marked_mesh c.loop-number.constrained in
