@@ -51,7 +51,7 @@ pub fn answer_refined<W: Write>(
     limits: Option<Limits>,
 ) -> Result<(), Fault> {
     let drawn = triangulate(rt, progress, arguments, task)?;
-    let refinement = refinement_of(rt, arguments, task, names, limits)?;
+    let refinement = refinement_of(rt, arguments, task, drawn, limits)?;
     write_refinement(rt, writer, arguments, task, &refinement)
 }
 
