@@ -1,4 +1,4 @@
-use Rattle.std.proofs.Common.{option_copied}
+use Rattle.std.proofs.Common.{◌∙◌, option_copied}
 use Rattle.std.proofs.lemmas.Result.{on_ok_weaker}
 use Rattle.dcel_constrained.specs.Constrained.{marked_mesh}
 use Rattle.dcel_output.specs.Lines.{lines_of, nearest_line}
@@ -19,7 +19,7 @@ returns-clause-constrained g c =
     (λ text output asks points drawn vertices.
     constrained_written _ _ m numbers t.inside near output
     (asked _ _ near given m numbers t.inside
-    (seen _ _ near given view.mesh.now m view.numbers.now numbers (option_copied view.inside) t.inside c.view.ensures.mesh c.view.ensures.numbers c.view.ensures.inside text)
+    (seen _ _ near given view.mesh.now m view.numbers.now numbers (option_copied view.inside) t.inside c.view.ensures.mesh (c.view.ensures.numbers ∙ own.ensures.numbers) c.view.ensures.inside text)
     output asks.asks.is asks.asks.listed)
     points c.args.drawn.names.vertices.items _ (own.ensures.triangles points drawn.numbered vertices) (own.ensures.all asks.outline))
     c.write_drawn.ensures
@@ -37,7 +37,7 @@ returns-clause-inside g c =
     (λ text output asks points drawn vertices.
     inside_written _ _ m numbers t.inside near output
     (asked _ _ near given m numbers t.inside
-    (seen _ _ near given view.mesh.now m view.numbers.now numbers (option_copied view.inside) t.inside c.view.ensures.mesh c.view.ensures.numbers c.view.ensures.inside text)
+    (seen _ _ near given view.mesh.now m view.numbers.now numbers (option_copied view.inside) t.inside c.view.ensures.mesh (c.view.ensures.numbers ∙ own.ensures.numbers) c.view.ensures.inside text)
     output asks.asks.is asks.asks.listed)
     points c.args.drawn.names.vertices.items _ (own.ensures.triangles points drawn.numbered vertices) _ (own.ensures.inside asks.outline))
     c.write_drawn.ensures
