@@ -26,7 +26,7 @@ pub fn constrained<A: Allocator + Copy>(
 ) -> Result<ConstrainedTriangulation<A>, Fail> {
     let triangulation = numbered(places, memory)?;
     require!(triangulation.is_whole());
-    Ok(ConstrainedTriangulation::convert(triangulation, memory)?)
+    Ok(ConstrainedTriangulation::from_triangulation(&triangulation, memory)?)
 }
 
 /// Returns whether a marked edge joins two vertices.
