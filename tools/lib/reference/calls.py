@@ -25,7 +25,7 @@ CRATES = {
 }
 STEPPED_OVER = {"handles", "iterators"}
 NO_MEMORY = {"AllocError", "NoMemory", "OutOfMemory"}
-ASKS = re.compile(r"\b(?:asks|requires)\b")
+ASKS = re.compile(r"\b(?:asks?|requires?)\b")
 ASKED = re.compile(r"(?:Asks|Requires) (.*?)(?:[:;] .*|\.)?")
 HEAD = """# Calls
 
