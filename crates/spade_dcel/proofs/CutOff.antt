@@ -1,5 +1,5 @@
 -- A corner cut off the outer face: what is left once its strip is cut off, cleaned up, and the vertex is taken out.
-use Rattle.std.proofs.Common.{◌≡◌, ◌∙◌, inr, ℕ, zero, suc, ◌-◌, ◌==◌, List, [], ◌∷◌, ◌++◌, Option, Some, None, cond, replicate, slice_index_or, length, sym, ap, subst}
+use Rattle.std.proofs.Common.{◌≡◌, ◌∙◌, inr, ℕ, zero, suc, ◌-◌, ◌==◌, List, [], ◌∷◌, ◌++◌, Option, Some, None, cond, replicate, slice_get, length, sym, ap, subst}
 use Rattle.dcel_maps.specs.Conditions.{CanSwapRemove}
 use Rattle.dcel_maps.specs.EditLists.{ComesBy, EditedBy, vertex_cut_off}
 use Rattle.dcel_maps.specs.EditLists.EditKind.{numbers_changed, spur_dropped, words_joined}
@@ -36,13 +36,13 @@ module _ {V DE UE F : Type 0} (old cut : Mesh V DE UE F) (list : List ℕ) (cuts
     cut_is v is new out =
         out ∙ ap (λ (m : Mesh V DE UE F). vertex_taken_out m v) (cleans ∙ ap cleaned_up cuts) ∙ ap (vertex_taken_out (cleaned_up (strip_cut old list))) is
 
-    pub cut_datum : (v : ℕ) → v ≡ corner_of old.shape list → (taken : V) → taken ≡ slice_index_or clean.vertex_data v taken
-        → taken ≡ slice_index_or old.vertex_data (corner_of old.shape list) taken
+    pub cut_datum : (v : ℕ) → v ≡ corner_of old.shape list → (taken : V) → slice_get clean.vertex_data v ≡ Some taken
+        → slice_get old.vertex_data (corner_of old.shape list) ≡ Some taken
     cut_datum v is taken told =
-        told
-        ∙ ap (λ (xs : List V). slice_index_or xs v taken)
+        sym (ap (λ (xs : List V). slice_get xs v)
         (ap (λ (m : Mesh V DE UE F). m.vertex_data) cleans ∙ cleaned-vertices cut ∙ ap (λ (m : Mesh V DE UE F). m.vertex_data) cuts)
-        ∙ ap (λ (x : ℕ). slice_index_or old.vertex_data x taken) is
+        ∙ ap (λ (x : ℕ). slice_get old.vertex_data x) is)
+        ∙ told
 
     pub cut_moved : (v : ℕ) → v ≡ corner_of old.shape list → (swapped : Option ℕ) → swapped ≡ cond (v == clean.shape.vertices - 1) None (Some (clean.shape.vertices - 1))
         → swapped ≡ cond (corner_of old.shape list == old.shape.vertices - 1) None (Some (old.shape.vertices - 1))

@@ -7,3 +7,4 @@ pub mod OneShape
 pub mod Removed
 pub mod Spokes
 pub mod StripItems
+pub mod Taken

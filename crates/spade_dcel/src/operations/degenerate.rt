@@ -1,6 +1,6 @@
 //! Removing a vertex of a degenerate mesh: the only vertex, or one of a path.
 
-ghost use Rattle.std.specs.Prelude.{◌≡◌, ◌-◌, ◌==◌, cond, slice_index_or, Some, None};
+ghost use Rattle.std.specs.Prelude.{◌≡◌, ◌-◌, ◌==◌, cond, slice_get, Some, None};
 ghost use Rattle.dcel_maps.specs.Degenerate.{CanRemoveDegenerate};
 ghost use Rattle.dcel_maps.specs.EditLists.{EditedBy, path_shortened};
 ghost use Rattle.dcel_maps.specs.edits.Degenerate.{removed_degenerate};
@@ -39,8 +39,7 @@ pub fn remove_when_degenerate<V, DE: Drop, UE: Drop, F, A: Allocator>(
     requires { CanRemoveDegenerate dcel.old.shape vertex }
     ensures edit { dcel.new ≡ removed_degenerate dcel.old vertex }
     ensures edits { EditedBy (path_shortened dcel.old vertex) dcel.old dcel.new }
-    ensures datum { result.removed_vertex
-        ≡ slice_index_or dcel.old.vertex_data vertex result.removed_vertex }
+    ensures datum { slice_get dcel.old.vertex_data vertex ≡ Some result.removed_vertex }
     ensures moved { result.swapped_in_vertex
         ≡ cond (vertex == dcel.old.shape.vertices - 1) None (Some (dcel.old.shape.vertices - 1)) }
     ensures mesh { IsMesh dcel.new }

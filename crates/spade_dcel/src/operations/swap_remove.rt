@@ -1,6 +1,6 @@
 //! Taking out a vertex without edges.
 
-ghost use Rattle.std.specs.Prelude.{◌≡◌, ◌-◌, ◌==◌, ◌∷◌, [], cond, slice_index_or, Some, None};
+ghost use Rattle.std.specs.Prelude.{◌≡◌, ◌-◌, ◌==◌, ◌∷◌, [], cond, slice_get, Some, None};
 ghost use Rattle.dcel_maps.specs.Conditions.{CanSwapRemove};
 ghost use Rattle.dcel_maps.specs.EditLists.{EditedBy};
 ghost use Rattle.dcel_maps.specs.EditLists.EditKind.{numbers_changed};
@@ -32,8 +32,7 @@ pub fn swap_remove_vertex<V, DE, UE, F, A: Allocator>(
     requires { CanSwapRemove dcel.old.shape vertex }
     ensures edit { dcel.new ≡ vertex_taken_out dcel.old vertex }
     ensures edits { EditedBy (numbers_changed ∷ []) dcel.old dcel.new }
-    ensures datum { result.removed_vertex
-        ≡ slice_index_or dcel.old.vertex_data vertex result.removed_vertex }
+    ensures datum { slice_get dcel.old.vertex_data vertex ≡ Some result.removed_vertex }
     ensures moved { result.swapped_in_vertex
         ≡ cond (vertex == dcel.old.shape.vertices - 1) None (Some (dcel.old.shape.vertices - 1)) }
     ensures mesh { IsMesh dcel.new }

@@ -1,6 +1,6 @@
 //! Removing a corner of the outer face.
 
-ghost use Rattle.std.specs.Prelude.{◌≡◌, ◌-◌, ◌<◌, ◌==◌, cond, length, IfOk, OnErr, OnOk, slice_index_or, Some, None};
+ghost use Rattle.std.specs.Prelude.{◌≡◌, ◌-◌, ◌<◌, ◌==◌, cond, length, IfOk, OnErr, OnOk, slice_get, Some, None};
 ghost use Rattle.dcel_maps.specs.EditLists.{EditedBy, vertex_cut_off};
 ghost use Rattle.dcel_maps.specs.edits.Strip.{strip_cut, strip_edges};
 ghost use Rattle.dcel_maps.specs.Removals.{Closed, ascending};
@@ -45,8 +45,7 @@ pub fn cut_off_corner<V, DE: Drop, UE: Drop, F: Drop, A: Allocator + Clone>(
     requires strip { IsEdgeStrip dcel.old.shape strip.now }
     ensures edit { OnOk result (dcel.new ≡ vertex_taken_out (cleaned_up (strip_cut dcel.old strip.now)) (corner_of dcel.old.shape strip.now)) }
     ensures edits { OnOk result (EditedBy (vertex_cut_off (length strip.now)) dcel.old dcel.new) }
-    ensures datum { IfOk result (λ removed. removed.removed_vertex
-        ≡ slice_index_or dcel.old.vertex_data (corner_of dcel.old.shape strip.now) removed.removed_vertex) }
+    ensures datum { IfOk result (λ removed. slice_get dcel.old.vertex_data (corner_of dcel.old.shape strip.now) ≡ Some removed.removed_vertex) }
     ensures moved { IfOk result (λ removed. removed.swapped_in_vertex
         ≡ cond (corner_of dcel.old.shape strip.now == dcel.old.shape.vertices - 1) None (Some (dcel.old.shape.vertices - 1))) }
     ensures edges { IfOk result (λ removed. removed.removed_edges.items ≡ ascending (strip_edges dcel.old.shape strip.now)) }

@@ -1,6 +1,6 @@
 //! Removing a vertex that is inside a triangle.
 
-ghost use Rattle.std.specs.Prelude.{◌≡◌, ◌-◌, ◌/◌, ◌<◌, ◌==◌, ◌∷◌, [], cond, length, IfOk, OnErr, OnOk, slice_index_or, Some, None};
+ghost use Rattle.std.specs.Prelude.{◌≡◌, ◌-◌, ◌/◌, ◌<◌, ◌==◌, ◌∷◌, [], cond, length, IfOk, OnErr, OnOk, slice_get, Some, None};
 ghost use Rattle.dcel_maps.specs.Borders.{IsBorderLoop};
 ghost use Rattle.dcel_maps.specs.Conditions.{HasRoom};
 ghost use Rattle.dcel_maps.specs.EditLists.{EditedBy, vertex_cut_off};
@@ -63,8 +63,7 @@ pub fn remove_from_triangle<
     ensures edit { OnOk result (FillsHole DE.is_default UE.is_default F.is_default border_loop.now dcel.new
         (λ halves edges faces. vertex_taken_out (cleaned_up (hole_filled dcel.old vertex border_loop.now halves edges faces)) vertex)) }
     ensures edits { OnOk result (EditedBy (vertex_cut_off 3) dcel.old dcel.new) }
-    ensures datum { IfOk result (λ removed. removed.removed_vertex
-        ≡ slice_index_or dcel.old.vertex_data vertex removed.removed_vertex) }
+    ensures datum { IfOk result (λ removed. slice_get dcel.old.vertex_data vertex ≡ Some removed.removed_vertex) }
     ensures moved { IfOk result (λ removed. removed.swapped_in_vertex
         ≡ cond (vertex == dcel.old.shape.vertices - 1) None (Some (dcel.old.shape.vertices - 1))) }
     ensures edges { IfOk result (λ removed. removed.removed_edges ≡ ascending (edges_at dcel.old vertex)) }

@@ -4,6 +4,7 @@ use Rattle.dcel_edits.proofs.Public.{mesh-is-mesh}
 use Rattle.dcel_edits.proofs.stored.Changes.{held_mesh}
 use Rattle.dcel_edits.proofs.stored.Holding.{holds}
 use Rattle.dcel_edits.proofs.stored.PathVertices.{can_lose_degenerate, degenerate_out_holds}
+use Rattle.spade_dcel.proofs.Taken.{datum_held}
 use Rattle.spade_dcel.proofs.operations.degenerate.remove_when_degenerate.Goals as goal
 
 pub overflow_sub-num_vertices : goal.overflow_sub-num_vertices
@@ -26,3 +27,7 @@ returns-clause-edits g c =
 
 pub returns-clause-mesh : goal.returns-clause-mesh
 returns-clause-mesh g c = mesh-is-mesh _ _ (invariant_of-dcel g c)
+
+pub returns-clause-datum : goal.returns-clause-datum
+returns-clause-datum g c =
+    datum_held (holds c.dcel.invariant c.dcel.view_is) c.args.vertex _ c.requires.within c.take_out_degenerate-removed_vertex.ensures.datum _ c.of.ensures.datum

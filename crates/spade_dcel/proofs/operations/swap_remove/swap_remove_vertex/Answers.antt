@@ -5,6 +5,7 @@ use Rattle.dcel_edits.proofs.Public.{mesh-is-mesh}
 use Rattle.dcel_edits.proofs.stored.Changes.{held_mesh}
 use Rattle.dcel_edits.proofs.stored.Holding.{holds}
 use Rattle.dcel_edits.proofs.stored.TakingOut.{lose_vertex}
+use Rattle.spade_dcel.proofs.Taken.{datum_held}
 use Rattle.spade_dcel.proofs.operations.swap_remove.swap_remove_vertex.Goals as goal
 
 pub overflow_sub-num_vertices : goal.overflow_sub-num_vertices
@@ -36,3 +37,8 @@ returns-clause-edits g c =
 
 pub returns-clause-mesh : goal.returns-clause-mesh
 returns-clause-mesh g c = mesh-is-mesh _ _ (invariant_of-dcel g c)
+
+pub returns-clause-datum : goal.returns-clause-datum
+returns-clause-datum g c =
+    let held = holds c.dcel.invariant c.dcel.view_is in
+    datum_held held c.args.vertex _ (can_swap_remove-out _ (held_mesh _ _ _ held) _ c.requires).below c.take_out_vertex-removed_vertex.ensures.datum _ c.of.ensures.datum
