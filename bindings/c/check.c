@@ -209,6 +209,46 @@ static void check_convenience(void) {
     dcel_free(&mesh);
 }
 
+/* A square with one more edge at vertex 0, outside of it. */
+static void make_flag(dcel_mesh *mesh) {
+    const uint32_t corners[] = {0, 1, 2, 3}, counts[] = {4};
+    const uint64_t data[] = {10, 11, 12, 13};
+    uint32_t vertex;
+    dcel_fault fault;
+    dcel_removed removed;
+    CHECK(dcel_from_faces(mesh, data, 4, corners, 4, counts, 1, &fault) == DCEL_DONE);
+    for (uint32_t beside = 1; beside < 5; beside += 3) {
+        const uint32_t edge = (uint32_t)dcel_get_edge_from_neighbors(mesh, beside, 0);
+        CHECK(dcel_face(mesh, edge) == 0 && dcel_append_unconnected_vertex(mesh, 14, &vertex) == DCEL_DONE);
+        CHECK(dcel_create_new_face_adjacent_to_edge(mesh, edge, vertex) == DCEL_DONE);
+    }
+    CHECK(dcel_remove_vertex(mesh, 4, &removed) == DCEL_DONE && removed.moved == 5);
+    CHECK(dcel_num_undirected_edges(mesh) == 5 && dcel_num_faces(mesh) == 2);
+}
+
+/* Of several refusals that apply the first is returned. */
+static void check_first_refusals(void) {
+    dcel_mesh mesh = DCEL_MESH_INIT;
+    uint32_t vertex = 77, border[8], edges[4], faces[4];
+    dcel_opened opened;
+    dcel_removed removed = {77, 77};
+    make_round(&mesh);
+    CHECK(dcel_insert_vertex(&mesh, (uint32_t)dcel_face(&mesh, 1), 5, &vertex) == DCEL_DONE && vertex == 4);
+    /* Vertex 0 is on the border, and vertices 2, 3 and 4 are neighbors of both ends. */
+    CHECK(dcel_from(&mesh, 0) == 0 && dcel_to(&mesh, 0) == 1 && dcel_face(&mesh, 0) == 0);
+    CHECK(dcel_collapse_edge(&mesh, 0, &removed) == DCEL_NOT_INSIDE);
+    const size_t length = border_of(&mesh, 4, border);
+    CHECK(dcel_isolate_vertex_and_fill_hole(&mesh, border, length, 4, edges, 4, faces, 4, &opened) == DCEL_DONE);
+    CHECK(dcel_collapse_edge(&mesh, 0, &removed) == DCEL_REMOVAL_OPEN && dcel_collapse_edge(&mesh, 99, &removed) == DCEL_REMOVAL_OPEN);
+    CHECK(dcel_insert_vertex(&mesh, 0, 5, &vertex) == DCEL_REMOVAL_OPEN && dcel_insert_vertex(&mesh, 99, 5, &vertex) == DCEL_REMOVAL_OPEN);
+    CHECK(dcel_remove_vertex(&mesh, 99, &removed) == DCEL_NO_SUCH_VERTEX && dcel_remove_vertex(&mesh, 0, &removed) == DCEL_REMOVAL_OPEN);
+    dcel_free(&mesh);
+    make_flag(&mesh);
+    CHECK(dcel_remove_vertex(&mesh, 0, &removed) == DCEL_NOT_TRIANGLE && dcel_num_vertices(&mesh) == 5);
+    CHECK(removed.datum == 77 && removed.moved == 77 && vertex == 4);
+    dcel_free(&mesh);
+}
+
 /* A list of edits leaves the mesh that its calls leave one by one. */
 static void check_edits(void) {
     dcel_mesh mesh = DCEL_MESH_INIT, other = DCEL_MESH_INIT;
@@ -249,6 +289,37 @@ static void check_edits(void) {
     CHECK(dcel_vertex_data(&other, 4, &datum) == DCEL_DONE && datum == 12);
     dcel_free(&mesh);
     dcel_free(&other);
+}
+
+/* An edit that inserts a vertex which is there tells that vertex, one that inserts none tells no number. */
+static void check_edit_numbers(void) {
+    dcel_mesh mesh = DCEL_MESH_INIT;
+    const dcel_edit edits[] = {
+        {DCEL_CALL_APPEND_UNCONNECTED_VERTEX, 20, 0, 0},
+        {DCEL_CALL_APPEND_UNCONNECTED_VERTEX, 21, 0, 0},
+        {DCEL_CALL_APPEND_UNCONNECTED_VERTEX, 22, 0, 0},
+        {DCEL_CALL_APPEND_UNCONNECTED_VERTEX, 23, 0, 0},
+        {DCEL_CALL_APPEND_UNCONNECTED_VERTEX, 24, 0, 0},
+        {DCEL_CALL_SETUP_INITIAL_TWO_VERTICES, 0, 1, 0},
+        {DCEL_CALL_EXTEND_LINE, 1, 2, 0},
+        {DCEL_CALL_CREATE_SINGLE_FACE_BETWEEN_EDGE_AND_NEXT, 0, 0, 0},
+        {DCEL_CALL_CREATE_NEW_FACE_ADJACENT_TO_EDGE, 1, 4, 0},
+        {DCEL_CALL_INSERT_INTO_TRIANGLE, 3, 1, 0},
+        {DCEL_CALL_FLIP_CW, 0, 0, 0},
+        {DCEL_CALL_SWAP_VERTICES, 0, 1, 0},
+        {DCEL_CALL_UPDATE_VERTEX, 0, 5, 0},
+        {DCEL_CALL_REMOVE_WHEN_DEGENERATE, 0, 0, 0},
+        {DCEL_CALL_CLEAR, 0, 0, 0},
+    };
+    const uint64_t none = DCEL_NONE, numbers[] = {0, 1, 2, 3, 4, none, 2, 5, 4, 3, none, none, none, none, none};
+    enum { COUNT = sizeof edits / sizeof *edits };
+    dcel_reply replies[COUNT];
+    CHECK(dcel_new(&mesh) == DCEL_DONE && dcel_apply_all(&mesh, edits, COUNT, replies, COUNT) == DCEL_DONE);
+    for (size_t i = 0; i < COUNT; i++) {
+        CHECK(replies[i].status == (edits[i].call == DCEL_CALL_REMOVE_WHEN_DEGENERATE ? DCEL_NOT_PATH : DCEL_DONE));
+        CHECK(replies[i].number == numbers[i] && replies[i].moved == DCEL_NONE);
+    }
+    dcel_free(&mesh);
 }
 
 static void check_flips(void) {
@@ -959,7 +1030,9 @@ int main(void) {
     check_lines();
     check_triangles();
     check_convenience();
+    check_first_refusals();
     check_edits();
+    check_edit_numbers();
     check_flips();
     check_isolation();
     check_remeshing();

@@ -18,13 +18,13 @@
    What is proved of each call, for any numbers: it returns, and touches no memory but what it is given
    and its mesh. A mesh is always a sound map on the sphere. A call that changes the mesh does what it
    says and returns DCEL_DONE; or it changes nothing, neither the mesh nor what its pointers lead to, but
-   for a fault that it tells, and returns why not: the first dcel_status of those that apply, but
-   DCEL_OUT_OF_MEMORY or DCEL_SHORT before all others where it takes lists. A call that takes a const
-   dcel_mesh leaves it as it was.
+   for a fault that it tells, and returns why not: the first of its `Refusals` that applies, in their order,
+   but DCEL_OUT_OF_MEMORY or DCEL_SHORT before all others where it takes lists. A call of a triangulation
+   may return any of its `Refusals` that applies. A call that takes a const dcel_mesh leaves it as it was.
 
    Where a mesh isn't open nothing is done or found: a call returns DCEL_NO_MESH, DCEL_NONE, 0 or false.
    One that takes lists may return DCEL_OUT_OF_MEMORY or DCEL_SHORT, as above.
-   What else a call can be refused for stands behind `Refusals`, without DCEL_.
+   `Refusals` lists what else a call can be refused for, without DCEL_.
 
    Half edges 2 * u and 2 * u + 1 are the halves of edge u, and go opposite ways. Face 0 is the outer
    face. What a removal has given up is still counted, but not live, until it is taken out. */
@@ -415,8 +415,8 @@ dcel_status dcel_insert_vertex(dcel_mesh *mesh, uint32_t face, uint64_t datum, u
 
 /* Removes a vertex wherever it is, with its edges, and fills the hole if it is inside triangles. No new
    edge joins two vertices that an edge joins. Three kinds of elements get new numbers, the last ones.
-   Refusals: NO_SUCH_VERTEX, REMOVAL_OPEN, NOT_TRIANGLE if a face at the vertex isn't one, CUT_VERTEX,
-   SHORT_BORDER, SECOND_EDGE, NO_ROOM, OUT_OF_MEMORY. */
+   Refusals: NO_SUCH_VERTEX, REMOVAL_OPEN, NOT_TRIANGLE if an inner face at the vertex isn't one,
+   CUT_VERTEX, SHORT_BORDER, SECOND_EDGE, NO_ROOM, OUT_OF_MEMORY. */
 dcel_status dcel_remove_vertex(dcel_mesh *mesh, uint32_t vertex, dcel_removed *removed);
 
 /* Collapses an edge: removes the vertex where the half edge starts, and joins what met it to the vertex
@@ -455,9 +455,10 @@ typedef struct {
     uint64_t call, first, second, third;
 } dcel_edit;
 
-/* What the call of an edit returned: its dcel_status; the number that it tells, or the datum of a vertex
-   that was taken out; and the old number of the vertex that has the number of that one now. Where nothing
-   is told, DCEL_NONE. */
+/* What the call of an edit returned: its dcel_status, a number, and, after a removal, the old number of the
+   vertex that took the removed one's number. The number is the one that the call reports; the vertex that
+   dcel_extend_line, dcel_create_new_face_adjacent_to_edge or dcel_insert_into_triangle joins to the others;
+   or the datum of a vertex that was taken out. Where there is none, DCEL_NONE. */
 typedef struct {
     uint64_t status, number, moved;
 } dcel_reply;

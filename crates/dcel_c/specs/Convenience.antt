@@ -79,7 +79,7 @@ module _ {Told : Type 0} where
   IsDone Holds None new told = ⊥
 
 module _ {Why : Type 0} where
-  -- there is no mesh, or the status is that of a reason that is so
+  -- there is no mesh, or the status is that of a reason that holds; `MayNot` says that no earlier one does
   abbrev pub IsRefusedSo : (State → Why → Type 0) → (Why → ℕ) → Kept → ℕ → Type 0
   IsRefusedSo MayNot status_of None status = status ≡ 21
   IsRefusedSo MayNot status_of (Some was) status = (why : Why) × MayNot was why × (status ≡ status_of why)

@@ -104,8 +104,8 @@ pub border_at : {V DE UE F : Type 0} (m lent : Mesh V DE UE F) (h k : ℕ) (bord
 border_at {V} {DE} {UE} {F} m lent h k border is mesh half = is ∙ ap (λ (x : Mesh V DE UE F). border_from x.shape k) mesh ∙ ap (border_from m.shape) half
 
 -- the room for a border, and what is taken out of it, said of that half edge
-pub room_at : (s : Shape) (h : ℕ) (border : List ℕ) → border ≡ border_from s h → HasRoom s 0 (length border - 3) (length border - 2) → HasRoomToCollapse s h
-room_at s h border is = subst (λ (list : List ℕ). HasRoom s 0 (length list - 3) (length list - 2)) is
+pub room_for : (s : Shape) (h : ℕ) (border : List ℕ) → border ≡ border_from s h → HasRoomToCollapse s h → HasRoom s 0 (length border - 3) (length border - 2)
+room_for s h border is = subst (λ (list : List ℕ). HasRoom s 0 (length list - 3) (length list - 2)) (sym is)
 
 pub taken_at : {V DE UE F : Type 0} (is_half : DE → Type 0) (is_edge : UE → Type 0) (is_face : F → Type 0) (old new : Mesh V DE UE F) (h v : ℕ) (border : List ℕ)
     → border ≡ border_from old.shape h → v ≡ origin_of old.shape h

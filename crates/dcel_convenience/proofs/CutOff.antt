@@ -1,6 +1,5 @@
 -- A vertex cut off the border: what its removal leaves.
-use Rattle.std.proofs.Common.{◌≡◌, ◌∙◌, inr, refl, ℕ, ◌-◌, ◌/◌, ◌<◌, ◌==◌, List, Option, Some, None, cond, slice_get, slice_index_or, sym, ap, subst}
-use Rattle.std.proofs.lemmas.Option.{slice_get_read}
+use Rattle.std.proofs.Common.{◌≡◌, ◌∙◌, inr, refl, ℕ, ◌-◌, ◌/◌, ◌==◌, List, Option, Some, None, cond, slice_get, sym, ap, subst}
 use Rattle.dcel_convenience.specs.Anywhere.{without_strip}
 use Rattle.dcel_convenience.specs.Simple.{IsSimple}
 use Rattle.dcel_convenience.proofs.StaysSimple.{renamed_simple}
@@ -12,7 +11,7 @@ use Rattle.dcel_maps.specs.Renumbering.{cleaned_up, vertex_taken_out}
 use Rattle.dcel_maps.specs.Shapes.{IsLive, IsMesh, Mesh, end_of, origin_of}
 use Rattle.dcel_maps.specs.Strips.{IsEdgeStrip, IsStripAround, strip_of}
 use Rattle.dcel_maps.specs.edits.Strip.{strip_cut, strip_edges, strip_faces, strip_given_up, strip_half}
-use Rattle.dcel_maps.proofs.Liveness.{closed-live, is_live-parts, vertex_live-parts}
+use Rattle.dcel_maps.proofs.Liveness.{closed-live, is_live-parts}
 use Rattle.dcel_maps.proofs.Shown.{slice_index-shown_live}
 use Rattle.dcel_maps.proofs.removal.StripItems.{half-is, strip-is}
 use Rattle.dcel_maps.proofs.removal.StripMeshes.{strip_cut-mesh}
@@ -48,13 +47,8 @@ module _ {V DE UE F : Type 0} where
         ap (strip_half s) (are ∙ strip-is s mesh.sound mesh.sphere v h around) ∙ half-is s mesh.sound mesh.sphere v h around in
         ap (origin_of s) half ∙ around.out.start
 
-    below : v < old.shape.vertices
-    below = subst (λ w. w < old.shape.vertices) around.out.start (vertex_live-parts old.shape (origin_of old.shape h) (mesh.sound.starts_live h around.out.live)).0
-
-    pub cut_datum : (taken : V) → taken ≡ slice_index_or old.vertex_data (corner_of old.shape list) taken → slice_get old.vertex_data v ≡ Some taken
-    cut_datum taken told =
-        slice_get_read old.vertex_data old.shape.vertices v taken (sym mesh.sized.vertex_data) below
-        (subst (λ (x : ℕ). taken ≡ slice_index_or old.vertex_data x taken) corner told)
+    pub cut_datum : (taken : V) → slice_get old.vertex_data (corner_of old.shape list) ≡ Some taken → slice_get old.vertex_data v ≡ Some taken
+    cut_datum taken = subst (λ (x : ℕ). slice_get old.vertex_data x ≡ Some taken) corner
 
     pub cut_moved : (swapped : Option ℕ) → swapped ≡ cond (corner_of old.shape list == old.shape.vertices - 1) None (Some (old.shape.vertices - 1))
         → swapped ≡ cond (v == old.shape.vertices - 1) None (Some (old.shape.vertices - 1))

@@ -1,14 +1,12 @@
 -- A vertex taken out: what the hole that is filled and the cleanup leave.
-use Rattle.std.proofs.Common.{◌≡◌, ◌∙◌, inr, ℕ, ◌-◌, ◌≤◌, ◌==◌, List, [], ◌∷◌, length, map, reverse, Option, Some, None, cond, slice_get, slice_index_or, refl, sym, ap, subst, arith}
+use Rattle.std.proofs.Common.{◌≡◌, ◌∙◌, inr, ℕ, ◌-◌, ◌≤◌, ◌==◌, List, [], ◌∷◌, length, map, reverse, Option, Some, None, cond, slice_get, refl, sym, ap, subst, arith}
 use Rattle.std.proofs.lemmas.List.{length-reverse}
-use Rattle.std.proofs.lemmas.Option.{slice_get_read}
 use Rattle.dcel_convenience.specs.Removing.{CanRemoveVertex, TakesOut, border_from, border_round}
 use Rattle.dcel_maps.specs.Borders.{IsBorderLoop}
 use Rattle.dcel_maps.specs.Conditions.{CanSwapRemove, HasRoom}
 use Rattle.dcel_maps.specs.Removals.{Closed, IsListed, Removal, ascending, opened}
 use Rattle.dcel_maps.specs.Renumbering.{cleaned, cleaned_up, edge_taken_out, edges_down, edges_taken_out, face_taken_out, faces_down, faces_taken_out, vertex_taken_out}
-use Rattle.dcel_maps.proofs.Liveness.{vertex_live-parts}
-use Rattle.dcel_maps.specs.Shapes.{IsMesh, Mesh, Shape, next_of, vertex_anchor}
+use Rattle.dcel_maps.specs.Shapes.{Mesh, Shape, next_of, vertex_anchor}
 use Rattle.dcel_maps.specs.Walking.{ccw_of, walk_from}
 use Rattle.dcel_maps.specs.edits.Fill.{FillsHole, edges_at, faces_at, hole_filled, loop_filled}
 
@@ -89,15 +87,14 @@ module _ {V DE UE F : Type 0} where
     can_swap round = inr (ap (λ (m : Mesh V DE UE F). m.shape.removal) cleans ∙ ap cleaned (given_up round))
 
     -- each vertex has its datum
-    pub datum_is : (taken : V) → IsMesh old → IsBorderLoop old.shape border v → taken ≡ slice_index_or clean.vertex_data v taken → slice_get old.vertex_data v ≡ Some taken
-    datum_is taken mesh round told =
+    pub datum_is : (taken : V) → slice_get clean.vertex_data v ≡ Some taken → slice_get old.vertex_data v ≡ Some taken
+    datum_is taken =
         let r = filled.shape.removal in
         let stay : clean.vertex_data ≡ old.vertex_data =
         ap (λ (m : Mesh V DE UE F). m.vertex_data) cleans ∙ faces_out-data (edges_taken_out filled (edges_down r)) (faces_down r) ∙ edges_out-data filled (edges_down r)
         ∙ ap (λ (m : Mesh V DE UE F). m.vertex_data) fills.is
         ∙ loop-data old (opened (edges_at old v) (faces_at old v) v) (reverse border) fills.directed_data fills.undirected_data fills.face_data in
-        slice_get_read old.vertex_data old.shape.vertices v taken (sym mesh.sized.vertex_data) ((vertex_live-parts old.shape v round.live).0)
-        (subst (λ (xs : List V). taken ≡ slice_index_or xs v taken) stay told)
+        subst (λ (xs : List V). slice_get xs v ≡ Some taken) stay
 
     -- and its number
     pub moved_is : (swapped : Option ℕ) → swapped ≡ cond (v == clean.shape.vertices - 1) None (Some (clean.shape.vertices - 1))

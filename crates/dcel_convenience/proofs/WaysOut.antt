@@ -1,10 +1,11 @@
 -- Which way a vertex can be removed, and what that leaves of a simple mesh.
-use Rattle.std.proofs.Common.{◌≡◌, ◌≢◌, ◌∙◌, inl, inr, ℕ, ◌-◌, ◌/◌, ◌<◌, ◌≤◌, ◌==◌, length, Some, slice_get, slice_index_or, sym, ap, subst, arith}
+use Rattle.std.proofs.Common.{◌≡◌, ◌≢◌, ◌∙◌, inl, inr, ℕ, ◌/◌, ◌<◌, ◌≤◌, ◌==◌, length, sym, ap, subst, arith}
 use Rattle.std.proofs.lemmas.Bool.{cases_eq, cond_both}
-use Rattle.std.proofs.lemmas.Option.{slice_get_read}
-use Rattle.dcel_convenience.specs.Anywhere.{IsFirstToCollapse, IsLastEdge, Leaves, Removes}
+use Rattle.dcel_convenience.specs.Anywhere.{IsFirstToCollapse, IsLastEdge, MayNotLeave, Removes, reason_of}
+use Rattle.dcel_convenience.specs.Collapsing.{MayNotCollapse}
+use Rattle.dcel_convenience.specs.declared.collapsing.WhyNotCollapsed.{WhyNotCollapsed}
+use Rattle.dcel_convenience.specs.declared.collapsing.WhyNotCollapsed.TheVariants as collapsing
 use Rattle.dcel_convenience.specs.Removing.{Returns, TakesOut, border_from}
-use Rattle.dcel_convenience.specs.declared.anywhere.WayOut.{WayOut}
 use Rattle.dcel_convenience.specs.declared.anywhere.WayOut.TheVariants.{Inside}
 use Rattle.dcel_convenience.specs.Simple.{IsSimple}
 use Rattle.dcel_convenience.specs.Surrounding.{IsOnBorder}
@@ -77,13 +78,13 @@ module _ {V DE UE F : Type 0} where
       subst (λ (m : Mesh V DE UE F). IsSimple m.shape) (sym is)
       (renamed_simple old.shape (vertex_taken_out old v).shape _ _ _ _ _ _ (vertex-renamed old.shape v mesh.sound (can_swap_remove-out old mesh v (inl (closed, bare)))) simple)
 
-  -- a vertex in range has its datum
-  pub datum_at : (m : Mesh V DE UE F) (v : ℕ) (taken : V) → IsMesh m → v < m.shape.vertices → taken ≡ slice_index_or m.vertex_data v taken → slice_get m.vertex_data v ≡ Some taken
-  datum_at m v taken mesh below told = slice_get_read m.vertex_data m.shape.vertices v taken (sym mesh.sized.vertex_data) below told
-
-  -- a vertex whose edge can be collapsed has a way out
-  pub inside_leaves : (m : Mesh V DE UE F) (v h : ℕ) → IsFirstToCollapse m v h → (way : WayOut) × Leaves m v way
-  inside_leaves m v h first = (Inside h, first)
+  -- where an edge that can be collapsed is not, the vertex is not removed for the same reason
+  pub inside_refused : (m : Mesh V DE UE F) (v h : ℕ) (why : WhyNotCollapsed) → IsFirstToCollapse m v h → MayNotCollapse m.shape h why → MayNotLeave m v (reason_of why)
+  inside_refused m v h collapsing.RemovalOpen first opened = absurd (opened first.can.closed)
+  inside_refused m v h collapsing.NotInside first outside = absurd (outside.1 first.can.disc)
+  inside_refused m v h collapsing.SecondEdge first second = absurd (second.2 first.can.link)
+  inside_refused m v h collapsing.NoRoom first full = (h, first, full.1)
+  inside_refused m v h collapsing.OutOfMemory first short = (Inside h, first, short.1)
 
   -- and with it the vertex is removed
   pub inside_removed : (is_half : DE → Type 0) (is_edge : UE → Type 0) (is_face : F → Type 0) (old new : Mesh V DE UE F) (v h : ℕ) (taken : RemovalResult V)

@@ -3,9 +3,11 @@ use Rattle.std.specs.Prelude.{◌≡◌, ◌≢◌, ℕ, ◌<◌, List, ◌∷�
 use Rattle.dcel_convenience.specs.Collapsing.{CanCollapse, HasRoomToCollapse}
 use Rattle.dcel_convenience.specs.Removing.{Returns, TakesOut, border_from}
 use Rattle.dcel_convenience.specs.Simple.{IsSimple}
-use Rattle.dcel_convenience.specs.Surrounding.{HasLongFace, IsCut, IsInside, IsOnBorder}
+use Rattle.dcel_convenience.specs.Surrounding.{HasLongFace, IsCut, IsOnBorder, IsSurrounded}
 use Rattle.dcel_convenience.specs.declared.anywhere.WayOut.{WayOut}
 use Rattle.dcel_convenience.specs.declared.anywhere.WayOut.TheVariants.{Alone, Border, Inside, LastEdge}
+use Rattle.dcel_convenience.specs.declared.collapsing.WhyNotCollapsed.{WhyNotCollapsed}
+use Rattle.dcel_convenience.specs.declared.collapsing.WhyNotCollapsed.TheVariants as collapsing
 use Rattle.dcel_convenience.specs.declared.removing.WhyNotRemoved.{WhyNotRemoved}
 use Rattle.dcel_convenience.specs.declared.removing.WhyNotRemoved.TheVariants.{CutVertex, LongFace, NoRoom, NoVertex, NotInside, OutOfMemory, RemovalOpen, SecondEdge, ShortBorder}
 use Rattle.dcel_maps.specs.Conditions.{IsUnconnected}
@@ -24,6 +26,25 @@ use Rattle.spade_dcel.specs.declared.operations.results.RemovalResult.{RemovalRe
 pub record IsLastEdge (s : Shape) (v : ℕ) : Type 0 where
   pub alone : s.edges ≡ 1
   pub can : CanRemoveDegenerate s v
+
+-- there is a vertex v, and no removal is open
+abbrev pub IsThere : Shape → ℕ → Type 0
+IsThere s v = (v < s.vertices) × (s.removal ≡ Closed)
+
+-- the reason not to remove a vertex, from the reason not to collapse its edge
+abbrev pub reason_of : WhyNotCollapsed → WhyNotRemoved
+reason_of collapsing.RemovalOpen = RemovalOpen
+reason_of collapsing.NotInside = NotInside
+reason_of collapsing.SecondEdge = SecondEdge
+reason_of collapsing.NoRoom = NoRoom
+reason_of collapsing.OutOfMemory = OutOfMemory
+
+-- this way needs memory for a list, and there are the numbers that it needs
+abbrev pub MayLackMemory : Shape → WayOut → Type 0
+MayLackMemory s Alone = ⊥
+MayLackMemory s (Inside h) = HasRoomToCollapse s h
+MayLackMemory s (Border h) = Unit {0}
+MayLackMemory s LastEdge = ⊥
 
 module _ {V DE UE F : Type 0} where
   -- h is the first out edge of v that can be collapsed
@@ -62,17 +83,17 @@ module _ {V DE UE F : Type 0} where
     pub simple : IsSimple old.shape → IsSimple new.shape
     pub returned : Returns old v taken
 
-  -- each reason says what is so
+  -- each reason holds, and none above it does; NotInside is never given
   abbrev pub MayNotLeave : Mesh V DE UE F → ℕ → WhyNotRemoved → Type 0
-  MayNotLeave m v RemovalOpen = m.shape.removal ≢ Closed
   MayNotLeave m v NoVertex = ¬ (v < m.shape.vertices)
-  MayNotLeave m v LongFace = HasLongFace m.shape v
-  MayNotLeave m v CutVertex = IsCut m.shape v
-  MayNotLeave m v ShortBorder = ((h : ℕ) × IsOnBorder m.shape v h) × ¬ (2 < length (word_of m.shape.words 0)) × ¬ IsLastEdge m.shape v
-  MayNotLeave m v SecondEdge = IsInside m.shape v × ((h : ℕ) → IsOutEdge m.shape v h → ¬ CanCollapse m.shape h)
-  MayNotLeave m v NotInside = ⊥
+  MayNotLeave m v RemovalOpen = (v < m.shape.vertices) × (m.shape.removal ≢ Closed)
+  MayNotLeave m v LongFace = IsThere m.shape v × HasLongFace m.shape v
+  MayNotLeave m v CutVertex = IsThere m.shape v × IsCut m.shape v × ¬ HasLongFace m.shape v
+  MayNotLeave m v ShortBorder = IsThere m.shape v × ((h : ℕ) × IsOnBorder m.shape v h) × ¬ (2 < length (word_of m.shape.words 0)) × ¬ IsLastEdge m.shape v
+  MayNotLeave m v SecondEdge = IsThere m.shape v × IsSurrounded m.shape v × ((h : ℕ) → IsOutEdge m.shape v h → ¬ CanCollapse m.shape h)
   MayNotLeave m v NoRoom = (h : ℕ) × IsFirstToCollapse m v h × ¬ HasRoomToCollapse m.shape h
-  MayNotLeave m v OutOfMemory = (way : WayOut) × Leaves m v way
+  MayNotLeave m v OutOfMemory = (way : WayOut) × Leaves m v way × MayLackMemory m.shape way
+  MayNotLeave m v NotInside = ⊥
 
   -- what removing v comes to: it is removed, or refused for a reason that is so, and then the mesh is as it was
   abbrev pub Outcome : (DE → Type 0) → (UE → Type 0) → (F → Type 0) → Mesh V DE UE F → Mesh V DE UE F → ℕ → Result (RemovalResult V) WhyNotRemoved → Type 0

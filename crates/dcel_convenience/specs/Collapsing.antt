@@ -43,10 +43,10 @@ pub record CanCollapse (s : Shape) (h : ℕ) : Type 0 where
 abbrev pub HasRoomToCollapse : Shape → ℕ → Type 0
 HasRoomToCollapse s h = HasRoom s 0 (length (border_from s h) - 3) (length (border_from s h) - 2)
 
--- each reason but the want of memory says what isn't so
+-- each reason holds, and none above it does
 abbrev pub MayNotCollapse : Shape → ℕ → WhyNotCollapsed → Type 0
 MayNotCollapse s h RemovalOpen = s.removal ≢ Closed
-MayNotCollapse s h NotInside = ¬ StartsInDisc s h
-MayNotCollapse s h SecondEdge = ¬ MeetsLinkCondition s h
-MayNotCollapse s h NoRoom = ¬ HasRoomToCollapse s h
-MayNotCollapse s h OutOfMemory = CanCollapse s h
+MayNotCollapse s h NotInside = (s.removal ≡ Closed) × ¬ StartsInDisc s h
+MayNotCollapse s h SecondEdge = (s.removal ≡ Closed) × StartsInDisc s h × ¬ MeetsLinkCondition s h
+MayNotCollapse s h NoRoom = CanCollapse s h × ¬ HasRoomToCollapse s h
+MayNotCollapse s h OutOfMemory = CanCollapse s h × HasRoomToCollapse s h

@@ -13,9 +13,9 @@ pub record CanInsertVertex (s : Shape) (f : ℕ) : Type 0 where
   pub triangle : IsTriangle s f
   pub room : HasRoom s 1 3 2
 
--- each reason but the want of memory says what isn't so
+-- each reason holds, and none above it does
 abbrev pub MayNotInsert : Shape → ℕ → WhyNotInserted → Type 0
 MayNotInsert s f RemovalOpen = s.removal ≢ Closed
-MayNotInsert s f NoTriangle = ¬ ((0 < f) × IsTriangle s f)
-MayNotInsert s f NoRoom = ¬ HasRoom s 1 3 2
+MayNotInsert s f NoTriangle = (s.removal ≡ Closed) × ¬ ((0 < f) × IsTriangle s f)
+MayNotInsert s f NoRoom = (s.removal ≡ Closed) × (0 < f) × IsTriangle s f × ¬ HasRoom s 1 3 2
 MayNotInsert s f OutOfMemory = CanInsertVertex s f

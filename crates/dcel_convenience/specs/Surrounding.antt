@@ -15,6 +15,10 @@ pub record IsInTriangle (s : Shape) (h : ℕ) : Type 0 where
 abbrev pub IsInside : Shape → ℕ → Type 0
 IsInside s v = (h : ℕ) → IsOutEdge s v h → IsInTriangle s h
 
+-- the same of a vertex with an edge
+abbrev pub IsSurrounded : Shape → ℕ → Type 0
+IsSurrounded s v = ((h : ℕ) × IsOutEdge s v h) × IsInside s v
+
 -- h alone of the out edges of v is outer, and its other faces are inner triangles
 pub record IsOnBorder (s : Shape) (v h : ℕ) : Type 0 where
   pub out : IsOutEdge s v h
@@ -31,17 +35,19 @@ pub record IsCut (s : Shape) (v : ℕ) : Type 0 where
   pub one_outer : face_of s one ≡ 0
   pub other_outer : face_of s other ≡ 0
 
--- an inner face at v is no triangle
-pub record HasLongFace (s : Shape) (v : ℕ) : Type 0 where
-  pub half : ℕ
-  pub out : IsOutEdge s v half
-  pub inner : 0 < face_of s half
-  pub long : ¬ IsTriangle s (face_of s half)
+-- the face of h is inner, and no triangle
+pub record IsInLongFace (s : Shape) (h : ℕ) : Type 0 where
+  pub inner : 0 < face_of s h
+  pub long : ¬ IsTriangle s (face_of s h)
 
--- what is reported of the vertex v is so
+-- an inner face at v is no triangle
+abbrev pub HasLongFace : Shape → ℕ → Type 0
+HasLongFace s v = (h : ℕ) × IsOutEdge s v h × IsInLongFace s h
+
+-- what is reported of the vertex v is so, and of a cut vertex with a long face the face is reported
 abbrev pub Surrounds : Shape → ℕ → Surroundings → Type 0
 Surrounds s v Nothing = (h : ℕ) → ¬ IsOutEdge s v h
-Surrounds s v Triangles = ((h : ℕ) × IsOutEdge s v h) × IsInside s v
+Surrounds s v Triangles = IsSurrounded s v
 Surrounds s v (Border h) = IsOnBorder s v h
-Surrounds s v CutVertex = IsCut s v
+Surrounds s v CutVertex = IsCut s v × ¬ HasLongFace s v
 Surrounds s v LongFace = HasLongFace s v

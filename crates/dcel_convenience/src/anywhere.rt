@@ -1,9 +1,9 @@
 //! Removing a vertex wherever it lies.
 
 ghost use Rattle.std.specs.Prelude.{ℕ, ◌≡◌, ◌↔◌, ◌<◌, IfErr, IfOk, IsTrue, MatchOption};
-ghost use Rattle.dcel_convenience.specs.Anywhere.{IsFirstToCollapse, IsLastEdge, Leaves, MayNotLeave, Outcome, Removes};
+ghost use Rattle.dcel_convenience.specs.Anywhere.{IsFirstToCollapse, IsLastEdge, IsThere, Leaves, MayNotLeave, Outcome, Removes, reason_of};
 ghost use Rattle.dcel_convenience.specs.Collapsing.{CanCollapse};
-ghost use Rattle.dcel_convenience.specs.Surrounding.{IsInside, IsOnBorder};
+ghost use Rattle.dcel_convenience.specs.Surrounding.{IsOnBorder, IsSurrounded};
 ghost use Rattle.dcel_maps.specs.Conditions.{IsUnconnected};
 ghost use Rattle.dcel_maps.specs.Removals.{Closed};
 ghost use Rattle.dcel_maps.specs.Shapes.{IsLive, IsMesh, next_of};
@@ -52,8 +52,9 @@ pub enum WayOut {
 /// A simple mesh stays simple. The last edges, faces and vertex get the numbers that become free,
 /// and the result says whether a vertex did.
 ///
-/// Any vertex may be given. It is refused as [`WhyNotRemoved`] says, and then the mesh is as it
-/// was. `alloc` is for the list of half edges around the vertex.
+/// Any vertex may be given. It is refused for the reason that [`way_out`] returns, or where there is
+/// a way, for lack of numbers, or else of memory. Then the mesh is as it was. `alloc` is for the
+/// list of half edges around the vertex.
 ///
 /// [`cut_off_corner`]: spade_dcel::operations::cut_off_corner
 /// [`SecondEdge`]: WhyNotRemoved::SecondEdge
@@ -83,6 +84,11 @@ pub fn remove_any_vertex<
 /// Returns how a vertex can be removed by [`remove_any_vertex`], whatever numbers and memory there
 /// are, or why it can't be.
 ///
+/// Of several reasons it returns the first of [`NoVertex`](WhyNotRemoved::NoVertex),
+/// [`RemovalOpen`](WhyNotRemoved::RemovalOpen), [`LongFace`](WhyNotRemoved::LongFace),
+/// [`CutVertex`](WhyNotRemoved::CutVertex), [`ShortBorder`](WhyNotRemoved::ShortBorder) and
+/// [`SecondEdge`](WhyNotRemoved::SecondEdge).
+///
 /// It goes around the vertex and its neighbors as [`can_collapse_edge`] does for each of its edges,
 /// up to the first that can be collapsed; for a mesh of one edge it may look at all vertices. It
 /// allocates nothing. Any number may be given.
@@ -93,11 +99,11 @@ pub fn way_out<V, DE, UE, F, A: Allocator>(
     ensures way { IfOk result (Leaves dcel.now vertex) }
     ensures why { IfErr result (MayNotLeave dcel.now vertex) }
 {
-    if dcel.removal_state() != RemovalState::Closed {
-        return Err(WhyNotRemoved::RemovalOpen);
-    }
     if vertex.index() >= dcel.num_vertices() {
         return Err(WhyNotRemoved::NoVertex);
+    }
+    if dcel.removal_state() != RemovalState::Closed {
+        return Err(WhyNotRemoved::RemovalOpen);
     }
     match look_around(dcel, vertex) {
         Surroundings::Nothing => Ok(WayOut::Alone),
@@ -113,8 +119,8 @@ fn way_inside<V, DE, UE, F, A: Allocator>(
     dcel: &Dcel<V, DE, UE, F, A>,
     vertex: FixedVertexHandle,
 ) -> Result<WayOut, WhyNotRemoved>
-    requires within { vertex < dcel.now.shape.vertices }
-    requires inside { IsInside dcel.now.shape vertex }
+    requires there { IsThere dcel.now.shape vertex }
+    requires inside { IsSurrounded dcel.now.shape vertex }
     ensures way { IfOk result (Leaves dcel.now vertex) }
     ensures why { IfErr result (MayNotLeave dcel.now vertex) }
 {
@@ -149,7 +155,7 @@ fn way_at_border<V, DE, UE, F, A: Allocator>(
     vertex: FixedVertexHandle,
     outside: FixedDirectedEdgeHandle,
 ) -> Result<WayOut, WhyNotRemoved>
-    requires closed { dcel.now.shape.removal ≡ Closed }
+    requires there { IsThere dcel.now.shape vertex }
     requires border { IsOnBorder dcel.now.shape vertex outside }
     ensures way { IfOk result (Leaves dcel.now vertex) }
     ensures why { IfErr result (MayNotLeave dcel.now vertex) }
@@ -258,7 +264,6 @@ fn remove_at_border<
 }
 
 // Removes a vertex by collapsing this edge.
-#[tactic(auto, using(crate::proofs::WaysOut::inside_leaves))]
 fn remove_inside<
     V,
     DE: Default + Drop,
@@ -278,7 +283,19 @@ fn remove_inside<
 {
     match collapse_edge(dcel, alloc, half) {
         Ok(taken) => Ok(taken),
-        Err(WhyNotCollapsed::NoRoom) => Err(WhyNotRemoved::NoRoom),
-        Err(_) => Err(WhyNotRemoved::OutOfMemory),
+        Err(why) => Err(reason_of(why)),
+    }
+}
+
+// Returns why a vertex is not removed whose edge is not collapsed for this reason.
+fn reason_of(why: WhyNotCollapsed) -> WhyNotRemoved
+    ensures { result ≡ reason_of why }
+{
+    match why {
+        WhyNotCollapsed::RemovalOpen => WhyNotRemoved::RemovalOpen,
+        WhyNotCollapsed::NotInside => WhyNotRemoved::NotInside,
+        WhyNotCollapsed::SecondEdge => WhyNotRemoved::SecondEdge,
+        WhyNotCollapsed::NoRoom => WhyNotRemoved::NoRoom,
+        WhyNotCollapsed::OutOfMemory => WhyNotRemoved::OutOfMemory,
     }
 }

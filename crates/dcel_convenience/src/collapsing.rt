@@ -9,7 +9,7 @@ ghost use Rattle.dcel_maps.specs.Walking.{IsOutEdge};
 
 use crate::edges::{are_joined, is_only};
 use crate::surrounding::is_inside;
-use crate::taking_out::{border_from, take_out};
+use crate::taking_out::{border_from, border_length, take_out};
 use spade_dcel::dcel::{Dcel, RemovalState};
 use spade_dcel::handles::{FixedDirectedEdgeHandle, FixedVertexHandle};
 use spade_dcel::laws::every_mesh;
@@ -66,9 +66,9 @@ impl Error for WhyNotCollapsed {}
 /// the numbers that become free, and the result says whether a vertex did. A simple mesh stays
 /// simple.
 ///
-/// Any half edge may be given. It is refused as [`WhyNotCollapsed`] says, and then the mesh is as
-/// it was. [`can_collapse_edge`] reports whether only numbers or memory can be missing. `alloc` is
-/// for the border loop of the start.
+/// Any half edge may be given. It is refused for the first reason of [`WhyNotCollapsed`] that
+/// applies, and then the mesh is as it was. [`can_collapse_edge`] reports whether only numbers or
+/// memory can be missing. `alloc` is for the border loop of the start.
 pub fn collapse_edge<
     V,
     DE: Default + Drop,
@@ -95,13 +95,13 @@ pub fn collapse_edge<
     if let Some(why) = why_not(dcel, half) {
         return Err(why);
     }
+    if !has_room_to_collapse(dcel, half) {
+        return Err(WhyNotCollapsed::NoRoom);
+    }
     let vertex = start_of(dcel, half);
     let Ok(border) = border_from(alloc, dcel.directed_edge(half)) else {
         return Err(WhyNotCollapsed::OutOfMemory);
     };
-    if !dcel.has_room_for(Room::filling(border.len())) {
-        return Err(WhyNotCollapsed::NoRoom);
-    }
     let Ok(taken) = take_out(dcel, border, vertex) else {
         return Err(WhyNotCollapsed::OutOfMemory);
     };
@@ -146,6 +146,18 @@ fn why_not<V, DE, UE, F, A: Allocator>(
         return Some(WhyNotCollapsed::SecondEdge);
     }
     None
+}
+
+// Returns whether there are numbers for what fills the hole around the start of a live half edge.
+fn has_room_to_collapse<V, DE, UE, F, A: Allocator>(
+    dcel: &Dcel<V, DE, UE, F, A>,
+    half: FixedDirectedEdgeHandle,
+) -> bool
+    requires { IsLive dcel.now.shape half }
+    ensures { IsTrue result ↔ HasRoomToCollapse dcel.now.shape half }
+{
+    let count = border_length(dcel.directed_edge(half));
+    dcel.has_room_for(Room::filling(count))
 }
 
 // Returns whether the faces around the start of a half edge are inner triangles that make a disc.

@@ -53,8 +53,8 @@ pub struct NotInserted<V> {
 /// Inserts a new vertex with this datum into an inner triangle, and returns it: the last one.
 ///
 /// This is [`append_unconnected_vertex`], and then [`insert_into_triangle`]. Any face may be given.
-/// It is refused exactly as [`WhyNotInserted`] says; then the mesh is as it was, and the datum is
-/// returned.
+/// It is refused for the first reason of [`WhyNotInserted`] that applies; then the mesh is as it
+/// was, and the datum is returned.
 pub fn insert_vertex<V, DE: Default, UE: Default, F: Default, A: Allocator>(
     dcel: &mut Dcel<V, DE, UE, F, A>,
     datum: V,

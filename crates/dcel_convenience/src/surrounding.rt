@@ -2,8 +2,8 @@
 
 ghost use Rattle.std.specs.Prelude.{◌≡◌, ◌≢◌, ◌⊎◌, ℕ, ◌<◌, ◌↔◌, IsTrue, MatchOption, Some};
 ghost use Rattle.std.specs.Bool.{OnFalse, OnTrue};
-ghost use Rattle.dcel_convenience.specs.Surrounding.{IsInTriangle, IsInside, Surrounds};
-ghost use Rattle.dcel_maps.specs.Shapes.{IsLive, face_of};
+ghost use Rattle.dcel_convenience.specs.Surrounding.{HasLongFace, IsInLongFace, IsInTriangle, IsInside, Surrounds};
+ghost use Rattle.dcel_maps.specs.Shapes.{IsLive};
 ghost use Rattle.dcel_maps.specs.Walking.{IsOutEdge};
 
 use spade_dcel::dcel::Dcel;
@@ -29,8 +29,8 @@ pub enum Surroundings {
 
 /// Returns what lies around a vertex.
 ///
-/// A vertex may be a cut vertex and have a face that is not a triangle; one of the two is reported.
-/// It goes around the vertex at most twice, and allocates nothing.
+/// A cut vertex that has a face that is not a triangle is reported as [`Surroundings::LongFace`]. It
+/// goes around the vertex at most three times, and allocates nothing.
 ///
 /// Asks for a number below [`num_vertices`](Dcel::num_vertices).
 pub fn look_around<V, DE, UE, F, A: Allocator>(
@@ -44,18 +44,15 @@ pub fn look_around<V, DE, UE, F, A: Allocator>(
     let Some(_) = dcel.vertex_out_edge(vertex) else {
         return Surroundings::Nothing;
     };
-    let Some(odd) = odd_spoke(dcel, vertex, &None) else {
+    if has_long_face(dcel, vertex) {
+        return Surroundings::LongFace;
+    }
+    let Some(outside) = odd_spoke(dcel, vertex, &None) else {
         return Surroundings::Triangles;
     };
-    if !is_outer(dcel, odd) {
-        return Surroundings::LongFace;
-    }
-    let Some(other) = odd_spoke(dcel, vertex, &Some(odd)) else {
-        return Surroundings::Border(odd);
+    let Some(_) = odd_spoke(dcel, vertex, &Some(outside)) else {
+        return Surroundings::Border(outside);
     };
-    if !is_outer(dcel, other) {
-        return Surroundings::LongFace;
-    }
     Surroundings::CutVertex
 }
 
@@ -68,6 +65,38 @@ pub(crate) fn is_inside<V, DE, UE, F, A: Allocator>(
     ensures { IsTrue result ↔ IsInside dcel.now.shape vertex }
 {
     odd_spoke(dcel, vertex, &None).is_none()
+}
+
+// Returns whether an inner face around a vertex is not a triangle.
+fn has_long_face<V, DE, UE, F, A: Allocator>(
+    dcel: &Dcel<V, DE, UE, F, A>,
+    vertex: FixedVertexHandle,
+) -> bool
+    requires { vertex < dcel.now.shape.vertices }
+    ensures { IsTrue result ↔ HasLongFace dcel.now.shape vertex }
+{
+    every_mesh(dcel);
+    for edge in dcel.vertex(vertex).out_edges() {
+        if is_in_long_face(dcel, edge.fix()) {
+            return true;
+        }
+    }
+    false
+}
+
+// Returns whether a live half edge is on an inner face that is not a triangle.
+fn is_in_long_face<V, DE, UE, F, A: Allocator>(
+    dcel: &Dcel<V, DE, UE, F, A>,
+    half: FixedDirectedEdgeHandle,
+) -> bool
+    requires { IsLive dcel.now.shape half }
+    ensures { IsTrue result ↔ IsInLongFace dcel.now.shape half }
+{
+    let face = dcel.directed_edge(half).face().fix();
+    if face.is_outer() {
+        return false;
+    }
+    !dcel.is_triangle(face)
 }
 
 // Returns the first half edge out of a vertex that is on no inner triangle, besides the one to be
@@ -123,15 +152,4 @@ fn is_in_triangle<V, DE, UE, F, A: Allocator>(
         return false;
     }
     dcel.is_triangle(face)
-}
-
-// Returns whether a live half edge is on the outer face.
-fn is_outer<V, DE, UE, F, A: Allocator>(
-    dcel: &Dcel<V, DE, UE, F, A>,
-    half: FixedDirectedEdgeHandle,
-) -> bool
-    requires { IsLive dcel.now.shape half }
-    ensures { IsTrue result ↔ (face_of dcel.now.shape half ≡ 0) }
-{
-    dcel.directed_edge(half).is_outer_edge()
 }

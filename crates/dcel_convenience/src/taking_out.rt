@@ -35,6 +35,21 @@ pub(crate) fn border_from<V, DE, UE, F, A: Allocator, B: Allocator>(
     Ok(border)
 }
 
+/// Returns how many half edges [`border_from`] lists.
+pub(crate) fn border_length<V, DE, UE, F, A: Allocator>(
+    first: DirectedEdgeHandle<'_, V, DE, UE, F, A>,
+) -> usize
+    requires { IsLive (mesh_behind first).shape (number_of first) }
+    ensures { result ≡ length (border_from (mesh_behind first.entry).shape (number_of first.entry)) }
+{
+    let spokes: CircularIterator<_, _, _, _, CCWEdgesNextBackFn, _> = CircularIterator::new(first);
+    let mut count = 0;
+    for _ in spokes {
+        count += 1;
+    }
+    count
+}
+
 /// Takes a vertex out, and fills the hole by edges that start where the last half edge of its
 /// border loop does.
 ///

@@ -11,4 +11,4 @@ returns-clause-outcome g c = record {
 }
 
 pub returns-in_default-clause-outcome : goal.returns-in_default-clause-outcome
-returns-in_default-clause-outcome g c = ((Border c.args.outside, (c.requires.closed, c.requires.around)), c.in_default.ensures.refused)
+returns-in_default-clause-outcome g c = ((Border c.args.outside, (c.requires.closed, c.requires.around), tt), c.in_default.ensures.refused)

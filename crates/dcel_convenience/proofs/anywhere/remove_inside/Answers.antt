@@ -1,4 +1,4 @@
-use Rattle.dcel_convenience.proofs.WaysOut.{inside_leaves, inside_removed}
+use Rattle.dcel_convenience.proofs.WaysOut.{inside_refused, inside_removed}
 use Rattle.dcel_convenience.proofs.anywhere.remove_inside.Goals as goal
 
 pub returns-in-Ok-clause-outcome : goal.returns-in-Ok-clause-outcome
@@ -8,6 +8,9 @@ returns-in-Ok-clause-outcome g c =
 
 pub returns-in-Err : goal.returns-in-Err
 returns-in-Err g c = record {
-  outcome = (inside_leaves c.args.dcel.now c.args.vertex c.args.half c.requires, c.in-Err.ensures.refused);
+  outcome = (
+    rw c.reason_of.ensures (inside_refused c.args.dcel.now c.args.vertex c.args.half c.in-Err.why c.requires c.in-Err.ensures.why),
+    c.in-Err.ensures.refused,
+  );
   mesh = c.in-Err.ensures.mesh;
 }

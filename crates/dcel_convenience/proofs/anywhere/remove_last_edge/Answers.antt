@@ -1,5 +1,5 @@
 use Rattle.dcel_convenience.specs.declared.anywhere.WayOut.TheVariants.{LastEdge}
-use Rattle.dcel_convenience.proofs.WaysOut.{datum_at, last_edge_simple}
+use Rattle.dcel_convenience.proofs.WaysOut.{last_edge_simple}
 use Rattle.dcel_convenience.proofs.anywhere.remove_last_edge.Goals as goal
 
 pub returns-clause-removed : goal.returns-clause-removed
@@ -10,8 +10,7 @@ returns-clause-removed g c = record {
   simple = λ simple. last_edge_simple c.args.dcel.now c.remove_when_degenerate.new.dcel c.args.vertex c.requires c.remove_when_degenerate.ensures.edit
       c.remove_when_degenerate.ensures.mesh;
   returned = record {
-    datum = datum_at c.args.dcel.now c.args.vertex c.remove_when_degenerate.result.removed_vertex c.every_mesh.ensures c.requires.can.within
-        c.remove_when_degenerate.ensures.datum;
+    datum = c.remove_when_degenerate.ensures.datum;
     moved = c.remove_when_degenerate.ensures.moved;
   };
 }

@@ -1,7 +1,6 @@
-use Rattle.std.proofs.Common.{length, refl, arith, subst}
+use Rattle.std.proofs.Common.{refl, subst}
 use Rattle.dcel_convenience.specs.Removing.{Returns}
-use Rattle.dcel_convenience.proofs.Collapsed.{border_at, border_is_loop, room_at, taken_at}
-use Rattle.dcel_convenience.proofs.Removed.{room_is}
+use Rattle.dcel_convenience.proofs.Collapsed.{border_at, border_is_loop, room_for, taken_at}
 use Rattle.dcel_convenience.proofs.StaysSimple.{stays_simple}
 use Rattle.dcel_convenience.proofs.collapsing.collapse_edge.Goals as goal
 
@@ -14,19 +13,10 @@ take_out-requires-clause-inside g c =
 
 pub take_out-requires-clause-room : goal.take_out-requires-clause-room
 take_out-requires-clause-room g c =
-    room_is c.args.dcel.now.shape c.filling.result.undirected_edges c.filling.result.faces c.filling.result.vertices c.len.result (length c.in-Ok.border.items)
-    c.filling.ensures.vertices c.filling.ensures.edges c.filling.ensures.faces (omega (arith, c.len.ensures, c.in-Ok.border.ok.0))
-    (c.has_room_for.ensures.0 c.if-not-has_room_for.false)
-
-pub returns-clause-room : goal.returns-clause-room
-returns-clause-room g c =
     let m = c.args.dcel.now in
     let h = c.args.half in
     let is = border_at m c.directed_edge.result.dcel.now h c.directed_edge.result.number c.in-Ok.border.items c.in-Ok.ensures c.directed_edge.ensures.mesh c.directed_edge.ensures.number in
-    room_at m.shape h c.in-Ok.border.items is
-    (room_is m.shape c.filling.result.undirected_edges c.filling.result.faces c.filling.result.vertices c.len.result (length c.in-Ok.border.items)
-    c.filling.ensures.vertices c.filling.ensures.edges c.filling.ensures.faces (omega (arith, c.len.ensures, c.in-Ok.border.ok.0))
-    (c.has_room_for.ensures.0 c.if-not-has_room_for.false))
+    room_for m.shape h c.in-Ok.border.items is (c.has_room_to_collapse.ensures.0 c.if-not-has_room_to_collapse.false)
 
 pub returns-clause-edit : goal.returns-clause-edit
 returns-clause-edit g c =
@@ -41,12 +31,8 @@ returns-clause-simple g c =
     let m = c.args.dcel.now in
     let h = c.args.half in
     let is = border_at m c.directed_edge.result.dcel.now h c.directed_edge.result.number c.in-Ok.border.items c.in-Ok.ensures c.directed_edge.ensures.mesh c.directed_edge.ensures.number in
-    let room =
-    room_at m.shape h c.in-Ok.border.items is
-    (room_is m.shape c.filling.result.undirected_edges c.filling.result.faces c.filling.result.vertices c.len.result (length c.in-Ok.border.items)
-    c.filling.ensures.vertices c.filling.ensures.edges c.filling.ensures.faces (omega (arith, c.len.ensures, c.in-Ok.border.ok.0))
-    (c.has_room_for.ensures.0 c.if-not-has_room_for.false)) in
-    stays_simple g.DE.Default.is_default g.UE.Default.is_default g.F.Default.is_default m c.take_out.new.dcel c.every_mesh.ensures h (c.in_default.ensures.can refl) room
+    stays_simple g.DE.Default.is_default g.UE.Default.is_default g.F.Default.is_default m c.take_out.new.dcel c.every_mesh.ensures h (c.in_default.ensures.can refl)
+    (c.has_room_to_collapse.ensures.0 c.if-not-has_room_to_collapse.false)
     (taken_at g.DE.Default.is_default g.UE.Default.is_default g.F.Default.is_default m c.take_out.new.dcel h c.start_of-vertex.result c.in-Ok.border.items is c.start_of-vertex.ensures.start
     c.in-Ok-take_out.ensures.edit)
 

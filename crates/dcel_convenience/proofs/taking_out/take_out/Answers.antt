@@ -23,7 +23,7 @@ pub returns-clause-returned : goal.returns-clause-returned
 returns-clause-returned g c = record {
   datum = datum_is g.DE.Default.is_default g.UE.Default.is_default g.F.Default.is_default c.args.dcel.now c.isolate_vertex_and_fill_hole.new.dcel
       c.cleanup_isolated_vertex.new.dcel c.args.vertex c.args.border.items c.in-Ok.ensures.edit c.cleanup_isolated_vertex.ensures.edit
-      c.swap_remove_vertex.result.removed_vertex c.every_mesh.ensures c.requires.inside c.swap_remove_vertex.ensures.datum;
+      c.swap_remove_vertex.result.removed_vertex c.swap_remove_vertex.ensures.datum;
   moved = moved_is g.DE.Default.is_default g.UE.Default.is_default g.F.Default.is_default c.args.dcel.now c.isolate_vertex_and_fill_hole.new.dcel
       c.cleanup_isolated_vertex.new.dcel c.args.vertex c.args.border.items c.in-Ok.ensures.edit c.cleanup_isolated_vertex.ensures.edit
       c.swap_remove_vertex.result.swapped_in_vertex c.swap_remove_vertex.ensures.moved;
