@@ -78,7 +78,7 @@ export class Delaunay<C extends Coordinates = Coordinates> {
   /** Inserts a point, and returns its number: how many there were before, those removed too. */
   insert(x: number | bigint, y: number | bigint): number;
 
-  /** Moves a point, under its number. */
+  /** Moves a point, under its number. One that is there already stays, with its constraints. */
   move(point: number, x: number | bigint, y: number | bigint): void;
 
   /** Removes a point. */
@@ -95,8 +95,8 @@ export class Delaunay<C extends Coordinates = Coordinates> {
  * A constrained Delaunay triangulation that is kept: some edges have to stay, the constraints. All others are locally Delaunay, and no triangle
  * has a point inside its circle that it sees past no constraint. Points and arrays are as in `Delaunay`, and so is what calls throw.
  *
- * A point that comes to be on a constraint splits it in two. One that is removed or moved takes the constraints along that end at it, unless
- * an equal point stays there. `nearest` looks at each point.
+ * A point that comes to be on a constraint splits it in two. One that is removed or moved elsewhere takes the constraints along that end at
+ * it, unless an equal point stays there. `nearest` looks at each point.
  */
 export class ConstrainedDelaunay<C extends Coordinates = Coordinates> extends Delaunay<C> {
   /** Makes all edges constraints. Throws a RangeError that names the edge if an end is no point, or it crosses an edge before it. */

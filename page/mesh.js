@@ -313,11 +313,12 @@ export class Delaunay {
     return point;
   }
 
-  /** Moves a point. */
+  /** Moves a point. One that is there already stays, with its constraints. */
   move(point, x, y) {
     this.#checkPoint(point);
     checkCoordinate(x, 'x');
     checkCoordinate(y, 'y');
+    if (this.#isAt(point, x, y)) return;
     this.#take(point);
     this.#put(point, x, y);
   }
@@ -349,6 +350,10 @@ export class Delaunay {
   #checkPoint(point, name = 'point') {
     this.#shop();
     if (!Number.isInteger(point) || !(this.#vertexOf[point] >= 0)) throw new RangeError(`${name} is ${String(point)}: there is no point of this number`);
+  }
+
+  #isAt(point, ...place) {
+    return place.every((coordinate, axis) => Number(coordinate) === Number(this.#xs[2 * point + axis]));
   }
 
   #pointAt(shop, x, y) {

@@ -1,8 +1,7 @@
 -- A vertex of a line removed: the others stand on it still.
-use Rattle.std.proofs.Common.{◌≡◌, ◌≢◌, ap, inl, inr, unwrap_or, ℕ, ◌+◌, ◌-◌, ◌/◌, ◌<◌, ◌≤◌, ◌==◌, Bool, true, cond, Option, Some, None, slice_index_or, eq-eqb, refl, sym, ◌∙◌, subst, arith}
+use Rattle.std.proofs.Common.{◌≡◌, ◌≢◌, ap, inl, inr, unwrap_or, ℕ, ◌+◌, ◌-◌, ◌/◌, ◌<◌, ◌≤◌, ◌==◌, Bool, true, cond, Option, Some, None, slice_get, eq-eqb, refl, sym, ◌∙◌, subst, arith}
 use Rattle.std.proofs.lemmas.Bool.{cases_eq, false≢true, ne_eqb}
 use Rattle.std.proofs.lemmas.List.{get_or-set_other, length-map, length-set}
-use Rattle.std.proofs.lemmas.Option.{slice_get_read}
 use Rattle.dcel_fixed.specs.HalfEdges.{rev}
 use Rattle.dcel_fixed.proofs.Halves.{rev-half, rev-rev}
 use Rattle.dcel_maps.specs.Degenerate.{CanRemoveDegenerate, IsPath}
@@ -114,12 +113,12 @@ module _ {DE UE F : Type 0} (m : Mesh Point DE UE F) (mesh : IsMesh m) (sound : 
     line_sound : IsTriangleMesh (removed_degenerate m v)
     line_sound = flat_triangulated n closed_after line_flat joined_after
 
-    line_loses : (r : Removed) → r.point ≡ slice_index_or m.vertex_data v r.point → r.moved ≡ cond (v == m.shape.vertices - 1) None (Some (m.shape.vertices - 1))
+    line_loses : (r : Removed) → slice_get m.vertex_data v ≡ Some r.point → r.moved ≡ cond (v == m.shape.vertices - 1) None (Some (m.shape.vertices - 1))
         → Loses m (removed_degenerate m v) v r
     line_loses r point renamed = record {
       within = below;
       vertices = (let count = vertices_after in omega (arith, count, below));
-      point = slice_get_read m.vertex_data m.shape.vertices v r.point (sym mesh.sized.vertex_data) below point;
+      point = point;
       renamed = renamed;
       others = stands;
     }
@@ -261,5 +260,5 @@ module _ {DE UE F : Type 0} (m : Mesh Point DE UE F) (mesh : IsMesh m) (sound : 
     pub lost_sound : IsTriangleMesh new
     lost_sound = subst (λ (k : Mesh Point DE UE F). IsTriangleMesh k) (sym is) (line_sound done)
 
-    pub lost_vertex : (r : Removed) → r.point ≡ slice_index_or m.vertex_data v r.point → r.moved ≡ cond (v == m.shape.vertices - 1) None (Some (m.shape.vertices - 1)) → Loses m new v r
+    pub lost_vertex : (r : Removed) → slice_get m.vertex_data v ≡ Some r.point → r.moved ≡ cond (v == m.shape.vertices - 1) None (Some (m.shape.vertices - 1)) → Loses m new v r
     lost_vertex r point renamed = subst (λ (k : Mesh Point DE UE F). Loses m k v r) (sym is) (line_loses done r point renamed)

@@ -1,8 +1,7 @@
 -- What was given up taken out, and the vertex: the mesh lies in the plane with its hull, and each other vertex stands where it stood.
-use Rattle.std.proofs.Common.{◌≡◌, ◌≢◌, ◌⊎◌, ◌↔◌, inl, inr, ℕ, ◌+◌, ◌-◌, ◌<◌, ◌≤◌, ◌==◌, Bool, true, cond, List, ◌++◌, eq-eqb, length, map, Some, None, slice_index_or, refl, sym, ap, ◌∙◌, subst, arith}
+use Rattle.std.proofs.Common.{◌≡◌, ◌≢◌, ◌⊎◌, ◌↔◌, inl, inr, ℕ, ◌+◌, ◌-◌, ◌<◌, ◌≤◌, ◌==◌, Bool, true, cond, List, ◌++◌, eq-eqb, length, map, Some, None, slice_get, slice_index_or, refl, sym, ap, ◌∙◌, subst, arith}
 use Rattle.std.proofs.lemmas.Bool.{cases_lt, false≢true, ne_eqb}
 use Rattle.std.proofs.lemmas.List.{length-reverse, map-append}
-use Rattle.std.proofs.lemmas.Option.{slice_get_read}
 use Rattle.dcel_maps.specs.Removals.{Cleaned, gives_up_vertex}
 use Rattle.dcel_maps.specs.Renumbered.{new_edge, new_half}
 use Rattle.dcel_maps.specs.Renumbering.{cleaned, cleaned_up, edges_down, faces_down, moved, vertex_taken_out}
@@ -163,15 +162,12 @@ module _ {DE UE F : Type 0} (stays : UE → Bool) (old mid : Mesh Point DE UE F)
       is_live-from (gives_up_vertex c.shape.removal) c.shape.vertices w (omega (arith, within, is_vertices))
       (ap (λ r. gives_up_vertex r w) clean_record ∙ ne_eqb v w (λ is. other (sym is)))
 
-  pub removed_loses : (r : Removed) → r.point ≡ slice_index_or (cleaned_up mid).vertex_data v r.point
+  pub removed_loses : (r : Removed) → slice_get (cleaned_up mid).vertex_data v ≡ Some r.point
       → r.moved ≡ cond (v == (cleaned_up mid).shape.vertices - 1) None (Some ((cleaned_up mid).shape.vertices - 1)) → Loses old (vertex_taken_out (cleaned_up mid) v) v r
   removed_loses r point renamed = record {
     within = below;
     vertices = (let is = vertices_are in omega (arith, is, below));
-    point =
-        slice_get_read old.vertex_data old.shape.vertices v r.point
-        (let sized = given.mesh.sized.vertex_data in let count = given.vertices in omega (arith, ap length given.points, sized, count)) below
-        (point ∙ ap (λ (points : List Point). slice_index_or points v r.point) points_are);
+    point = subst (λ (points : List Point). slice_get points v ≡ Some r.point) points_are point;
     renamed = renamed ∙ ap (λ k. cond (v == k - 1) None (Some (k - 1))) vertices_are;
     others = λ w within other.
         ap (λ k. point_at n (moved (k - 1) v w)) (sym vertices_are) ∙ stands w (other_live w within other)
@@ -195,16 +191,16 @@ module _ {DE UE F : Type 0} (stays : UE → Bool) (old mid new : Mesh Point DE U
   pub taken_hull : IsFlat new ⊎ HasHull new
   taken_hull = subst (λ (k : Mesh Point DE UE F). IsFlat k ⊎ HasHull k) (sym is) (removed_hull stays old mid v before due given below many clean done)
 
-  pub taken_loses : (r : Removed) → r.point ≡ slice_index_or (cleaned_up mid).vertex_data v r.point
+  pub taken_loses : (r : Removed) → slice_get (cleaned_up mid).vertex_data v ≡ Some r.point
       → r.moved ≡ cond (v == (cleaned_up mid).shape.vertices - 1) None (Some ((cleaned_up mid).shape.vertices - 1)) → Loses old new v r
   taken_loses r point moves = subst (λ (k : Mesh Point DE UE F). Loses old k v r) (sym is) (removed_loses stays old mid v before due given below many clean done r point moves)
 
   -- all of it
-  pub taken : (r : Removed) → r.point ≡ slice_index_or old.vertex_data v r.point → r.moved ≡ cond (v == old.shape.vertices - 1) None (Some (old.shape.vertices - 1))
+  pub taken : (r : Removed) → slice_get old.vertex_data v ≡ Some r.point → r.moved ≡ cond (v == old.shape.vertices - 1) None (Some (old.shape.vertices - 1))
       → TakesOut stays old new v before items r
   taken r point moves = record {
     loses =
-        taken_loses r (point ∙ ap (λ (points : List Point). slice_index_or points v r.point) (sym (points_are stays old mid v before due given below many clean done)))
+        taken_loses r (subst (λ (points : List Point). slice_get points v ≡ Some r.point) (sym (points_are stays old mid v before due given below many clean done)) point)
         (moves ∙ ap (λ k. cond (v == k - 1) None (Some (k - 1))) (sym (vertices_are stays old mid v before due given below many clean done)));
     sound = taken_sound;
     staying = taken_staying;

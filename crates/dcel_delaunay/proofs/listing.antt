@@ -4,3 +4,4 @@ pub mod Faces
 pub mod Known
 pub mod Numbers
 pub mod Seen
+pub mod TooMany

@@ -1,9 +1,11 @@
 -- A Delaunay triangulation of points, told by the numbers of these.
-use Rattle.std.specs.Prelude.{◌≡◌, ◌≢◌, ◌⊎◌, ◌<◌, ◌≤◌, ℕ, List, length, slice_get, slice_index_or, Some, pos, ◌≤ℤ◌}
+use Rattle.std.specs.Prelude.{◌≡◌, ◌≢◌, ◌⊎◌, ◌<◌, ◌≤◌, ◌*◌, ◌^◌, ℕ, List, length, slice_get, slice_index_or, Some, pos, ◌≤ℤ◌, All, Contains}
 use Rattle.dcel_predicates.specs.declared.point.Point.{Point}
 use Rattle.dcel_predicates.specs.Determinants.{incircle_of, orient2d_of}
 use Rattle.dcel_plane.specs.Plane.{TurnsLeft, origin_point}
 use Rattle.dcel_plane.specs.covering.Places.{AreDisjoint, IsIn, Place, orient_at}
+use Rattle.dcel_planar.specs.declared.errors.InsertionError.{InsertionError}
+use Rattle.dcel_planar.specs.declared.errors.InsertionError.TheVariants.{OutOfMemory, OutOfRange, TooManyPoints, Unfinished}
 use Rattle.dcel_delaunay.specs.declared.triangles.triangle.Triangle.{Triangle}
 
 -- the point of a number
@@ -50,3 +52,18 @@ pub record AreDelaunayTriangles (points : List Point) (triangles : List Triangle
       → AreDisjoint (point_numbered points t.first) (point_numbered points t.second) (point_numbered points t.third)
       (point_numbered points u.first) (point_numbered points u.second) (point_numbered points u.third)
   pub covers : AreOnLine points ⊎ ((p : Place) → LiesAmong points p → LiesInOneOf points triangles p)
+
+-- so many of the points differ that a mesh may have no numbers for all: n vertices have up to 3n - 3 edges, the next one brings three more, and
+-- there are 2^31 numbers of edges
+pub record AreTooMany (points : List Point) : Type 0 where
+  pub different : List Point
+  pub from : All (Contains points) different
+  pub single : (i j : ℕ) → i < length different → j < length different → point_numbered different i ≡ point_numbered different j → i ≡ j
+  pub many : 2 ^ 31 < 3 * length different
+
+-- points aren't triangulated: there are too many, or memory ran out
+abbrev pub FailsToTriangulate : List Point → InsertionError → Type 0
+FailsToTriangulate points OutOfRange = ⊥
+FailsToTriangulate points TooManyPoints = AreTooMany points
+FailsToTriangulate points OutOfMemory = Unit {0}
+FailsToTriangulate points Unfinished = Unit {0}

@@ -1,9 +1,9 @@
 //! The triangles of points, as numbers of these points.
 
 ghost use Rattle.std.specs.List.{FoldsTo};
-ghost use Rattle.std.specs.Prelude.{◌≡◌, IfOk, OnOk, length};
+ghost use Rattle.std.specs.Prelude.{◌≡◌, IfErr, IfOk, OnOk, length};
 ghost use Rattle.dcel_delaunay.specs.Bulk.{counted};
-ghost use Rattle.dcel_delaunay.specs.Triangles.{AreDelaunayTriangles};
+ghost use Rattle.dcel_delaunay.specs.Triangles.{AreDelaunayTriangles, FailsToTriangulate};
 
 use crate::triangulation::Triangulation;
 use dcel_planar::{InsertionError, Point};
@@ -49,12 +49,14 @@ pub fn triangulate_with<A: Allocator + Copy, P: FnMut(usize)>(
 ) -> Result<Vec<Triangle, A>, InsertionError>
     requires progress { P.IsAlwaysCallable progress }
     ensures triangles { IfOk result (λ triangles. AreDelaunayTriangles points.now triangles.items) }
+    ensures fails { IfErr result (FailsToTriangulate points.now) }
     ensures told { OnOk result ((last : P) × FoldsTo (λ before done after. P.step before done tt after) progress (counted 1 (length points.now)) last) }
 {
     let mut triangulation = Triangulation::new(alloc)?;
-    let vertices = triangulation.insert_all_with(alloc, points, progress)?;
+    let inserted = triangulation.insert_all_with(alloc, points, progress);
     let mesh = triangulation.dcel();
     every_mesh(mesh);
+    let vertices = inserted?;
     let numbers = least_numbers(alloc, &vertices, mesh.num_vertices())?;
     let triangles = list_triangles(alloc, mesh, &numbers)?;
     Ok(triangles)

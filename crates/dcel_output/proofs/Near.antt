@@ -12,13 +12,13 @@ use Rattle.dcel_output.specs.Numbering.{IsNearestNumbered, IsNearestPoint, Numbe
 
 module _ {DE UE F : Type 0} (m : Mesh Point DE UE F) (mesh : IsMesh m) (single : PointsAreSingle m) (points : List Point) (numbers : List ℕ) (numbered : NumbersVertices m points numbers) where
   -- where a point stands
-  record Stands (i : ℕ) : Type 0 where
+  pub record Stands (i : ℕ) : Type 0 where
     pub vertex : ℕ
     pub is : slice_get numbered.vertices i ≡ Some vertex
     pub below : vertex < m.shape.vertices
     pub point : point_numbered points i ≡ point_at m vertex
 
-  stands : (i : ℕ) → i < length points → Stands i
+  pub stands : (i : ℕ) → i < length points → Stands i
   stands i below =
       let v = slice_index_or numbered.vertices i 0 in
       let is : slice_get numbered.vertices i ≡ Some v = slice_get-get_or numbered.vertices i 0 (let e = numbered.stand.length_is in omega (arith, below, e)) in

@@ -2,13 +2,14 @@
 use Rattle.std.specs.Prelude.{◌≡◌, ℕ, ◌<◌, List, Option, None, Some, length, slice_get}
 use Rattle.std.specs.List.{slice_index_or}
 use Rattle.dcel_predicates.specs.declared.point.Point.{Point}
+use Rattle.dcel_maps.specs.Conditions.{IsUnconnected}
 use Rattle.dcel_maps.specs.Removals.{Closed}
 use Rattle.dcel_maps.specs.Shapes.{IsMesh, Mesh, face_count}
 use Rattle.dcel_maps.specs.Triangulations.{AllTriangles}
 use Rattle.dcel_plane.specs.Plane.{TrianglesTurnLeft, point_at}
 use Rattle.dcel_planar.specs.Places.{HasPoint}
 use Rattle.dcel_delaunay.specs.Bulk.{AnswersEach}
-use Rattle.dcel_delaunay.specs.Triangulated.{FacesAreApart, GoesRoundHull, HullIsCovered}
+use Rattle.dcel_delaunay.specs.Triangulated.{FacesAreApart, GoesRoundHull, HullIsCovered, PointsAreSingle}
 use Rattle.dcel_regions.specs.Marked.{IsMarked}
 use Rattle.dcel_regions.specs.declared.mark.Mark.{Mark}
 use Rattle.dcel_constrained.specs.Blocking.{Blocks}
@@ -16,6 +17,7 @@ use Rattle.dcel_constrained.specs.Channels.{HasVertices}
 use Rattle.dcel_constrained.specs.Constraints.{IsMarkedWay, IsPartOf}
 use Rattle.dcel_constrained.specs.Loading.{DoCross}
 use Rattle.dcel_constrained.specs.Sight.{CirclesInSightAreEmpty}
+use Rattle.dcel_constrained.specs.Soundness.{IsConstrainedDelaunay}
 use Rattle.dcel_constrained.specs.declared.errors.ConstraintError.{ConstraintError}
 use Rattle.dcel_constrained.specs.declared.errors.ConstraintError.TheVariants as told
 use Rattle.dcel_constrained.specs.declared.load.Segment.{Segment}
@@ -61,8 +63,9 @@ module _ {DE F : Type 0} where
   LieOnSegments m vertices segments count = (u : ℕ) → IsMarked m u → (i : ℕ) × (s : Segment) × (i < count) × (slice_get segments i ≡ Some s) × IsOn m vertices s u
 
   -- a constrained Delaunay triangulation of the points (L. P. Chew, "Constrained Delaunay triangulations", 1989), with these numbers at its
-  -- vertices: triangles that go round counterclockwise cover the convex hull without overlaps; the marked edges are those of the segments, and
-  -- inside the circle of no triangle lies a vertex that it sees past no marked edge
+  -- vertices: triangles that go round counterclockwise, with all vertices as corners, cover the convex hull without overlaps, and the outer face
+  -- goes round it; the marked edges are those of the segments; each edge that isn't locally Delaunay is marked, and inside the circle of no
+  -- triangle is a vertex that it sees past no marked edge. If all points are on one line, it is a path along it.
   pub record AreConstrainedTriangles (points : List Point) (vertices : List (Option ℕ)) (segments : List Segment) (m : Mesh Point DE Mark F) (numbers : List ℕ)
       : Type 0 where
     pub numbered : NumbersVertices m points numbers
@@ -72,10 +75,13 @@ module _ {DE F : Type 0} where
     pub mesh : IsMesh m
     pub closed : m.shape.removal ≡ Closed
     pub triangles : AllTriangles m.shape
+    pub joined : (v : ℕ) → 1 < m.shape.vertices → ¬ IsUnconnected m.shape v
     pub plane : TrianglesTurnLeft (point_at m) m.shape
     pub apart : FacesAreApart m
     pub covers : 1 < face_count m.shape → HullIsCovered m
+    pub single : PointsAreSingle m
     pub hull : GoesRoundHull m
+    pub constrained : IsConstrainedDelaunay m
     pub visible : CirclesInSightAreEmpty m
 
   -- why the segment of the number i isn't made a chain of marked edges

@@ -1,5 +1,6 @@
 pub mod Constraining
 pub mod Keeping
+pub mod LeftOut
 pub mod Lines
 pub mod Numbering
 pub mod Outlining

@@ -37,8 +37,8 @@ pub enum SegmentError {
 /// It takes over the mesh of the triangulation. The vertex of each point is given; a point that was
 /// removed has none. The vertices keep their points and numbers.
 ///
-/// Asks for a whole triangulation ([`is_whole`](Triangulation::is_whole)). The error names the first
-/// segment that has no two vertices or crosses an earlier one; it is
+/// Asks for a whole triangulation ([`is_whole`](Triangulation::is_whole)). The error names a segment
+/// that has no two vertices or crosses an earlier one; it is
 /// [`OutOfMemory`](SegmentError::OutOfMemory) if memory or numbers run out.
 pub fn constrain<A: Allocator + Clone>(
     alloc: A,

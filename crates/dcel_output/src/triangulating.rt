@@ -1,8 +1,9 @@
 //! The points of a list, triangulated, and which of them is at each vertex.
 
-ghost use Rattle.std.specs.Prelude.{◌≡◌, IfOk};
+ghost use Rattle.std.specs.Prelude.{◌≡◌, IfErr, IfOk};
 ghost use Rattle.dcel_planar.specs.Outcomes.{IsWholeMesh};
 ghost use Rattle.dcel_delaunay.specs.Bulk.{StandAt};
+ghost use Rattle.dcel_delaunay.specs.Triangles.{FailsToTriangulate};
 ghost use Rattle.dcel_delaunay.specs.Triangulated.{mesh_in};
 ghost use Rattle.dcel_output.specs.Numbering.{NumbersVertices};
 
@@ -38,11 +39,13 @@ pub fn triangulate_points<A: Allocator + Copy, P: FnMut(usize)>(
     ensures whole { IfOk result (λ t. IsWholeMesh t.triangulation.planar) }
     ensures stand { IfOk result (λ t. StandAt (mesh_in t.triangulation) points.now t.vertices.items) }
     ensures numbered { IfOk result (λ t. NumbersVertices (mesh_in t.triangulation) points.now t.numbers.items) }
+    ensures fails { IfErr result (FailsToTriangulate points.now) }
 {
     let mut triangulation = Triangulation::new(alloc)?;
-    let vertices = triangulation.insert_all_with(alloc, points, progress)?;
+    let inserted = triangulation.insert_all_with(alloc, points, progress);
     let mesh = triangulation.dcel();
     every_mesh(mesh);
+    let vertices = inserted?;
     let numbers = least_numbers(alloc, &vertices, mesh.num_vertices())?;
     Ok(Triangulated {
         triangulation,

@@ -12,7 +12,7 @@ use std::io::{self, Write};
 
 /// Writes the corners of each triangle, counterclockwise, the least number first.
 ///
-/// If a write fails it returns that error, and some of the text may be written.
+/// If a write fails it returns that error, and nothing is promised of what was written.
 pub fn write_triangles<W: Write>(writer: &mut W, triangles: &[Triangle]) -> io::Result<()>
     ensures { OnOk result (Appends (W.contents writer.old) (W.contents writer.new) (lines_of triangle_line triangles.now)) }
 {
@@ -33,7 +33,7 @@ fn write_triangle<W: Write>(writer: &mut W, triangle: Triangle) -> io::Result<()
 /// Writes for each triangle the ones across from its corners, in the order of these as
 /// [`write_triangles`] writes them, or -1 for none.
 ///
-/// If a write fails it returns that error, and some of the text may be written.
+/// If a write fails it returns that error, and nothing is promised of what was written.
 pub fn write_neighbors<W: Write>(
     writer: &mut W,
     triangles: &[Triangle],
@@ -60,7 +60,7 @@ fn write_across<W: Write>(writer: &mut W, triangle: Triangle, across: Across) ->
 
 /// Writes the ends of each edge, the lesser number first.
 ///
-/// If a write fails it returns that error, and some of the text may be written.
+/// If a write fails it returns that error, and nothing is promised of what was written.
 pub fn write_edges<W: Write>(writer: &mut W, edges: &[Ends]) -> io::Result<()>
     ensures { OnOk result (Appends (W.contents writer.old) (W.contents writer.new) (lines_of edge_line edges.now)) }
 {
@@ -79,6 +79,8 @@ fn write_edge<W: Write>(writer: &mut W, ends: Ends) -> io::Result<()>
 }
 
 /// Writes a number into each line.
+///
+/// If a write fails it returns that error, and nothing is promised of what was written.
 pub fn write_vertices<W: Write>(writer: &mut W, numbers: &[u32]) -> io::Result<()>
     ensures { OnOk result (Appends (W.contents writer.old) (W.contents writer.new) (lines_of vertex_line numbers.now)) }
 {
@@ -96,6 +98,8 @@ fn write_vertex<W: Write>(writer: &mut W, number: u32) -> io::Result<()>
 }
 
 /// Writes a number into each line, or -1 for none.
+///
+/// If a write fails it returns that error, and nothing is promised of what was written.
 pub fn write_nearest<W: Write>(writer: &mut W, numbers: &[Option<u32>]) -> io::Result<()>
     ensures { OnOk result (Appends (W.contents writer.old) (W.contents writer.new) (lines_of nearest_line numbers.now)) }
 {

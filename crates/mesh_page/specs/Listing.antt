@@ -1,14 +1,18 @@
 -- What a triangulation has, as lists, and where points are in it.
 use Rattle.dcel_constrained.specs.Constrained.{marked_mesh}
 use Rattle.dcel_constrained.specs.Sight.{CirclesInSightAreEmpty, hides}
+use Rattle.dcel_constrained.specs.Soundness.{IsConstrainedDelaunay}
 use Rattle.dcel_delaunay.specs.Lists.{corners_of, ends_of, inner_faces}
 use Rattle.dcel_delaunay.specs.Triangles.{AreDelaunayTriangles}
 use Rattle.dcel_delaunay.specs.Triangulated.{FacesAreApart, GoesRoundHull, HullIsCovered, IsNearestIn, PointsAreSingle, mesh_in}
 use Rattle.dcel_delaunay.specs.declared.lists.Ends.{Ends}
 use Rattle.dcel_delaunay.specs.declared.triangles.triangle.Triangle.{Triangle}
 use Rattle.dcel_exports.specs.Answers.{filled}
+use Rattle.dcel_maps.specs.Conditions.{IsUnconnected}
 use Rattle.dcel_maps.specs.Numbers.{numbers_between}
+use Rattle.dcel_maps.specs.Removals.{Closed}
 use Rattle.dcel_maps.specs.Shapes.{Mesh, face_count}
+use Rattle.dcel_maps.specs.Triangulations.{AllTriangles}
 use Rattle.dcel_plane.specs.Plane.{TrianglesTurnLeft, point_at}
 use Rattle.dcel_predicates.specs.declared.point.Point.{Point}
 use Rattle.mesh_page.specs.Given.{IsAt}
@@ -43,14 +47,19 @@ module _ {UE : Type 0} where
 abbrev pub ListsDelaunayTriangles : State → Type 0
 ListsDelaunayTriangles t = AreDelaunayTriangles (mesh_in t).vertex_data (triangles_of (mesh_in t))
 
--- triangles that go round counterclockwise cover the hull without overlaps, and inside the circle of none lies a vertex that it sees past no
--- constraint
+-- triangles that go round counterclockwise, with all vertices as corners, cover the convex hull without overlaps, and the outer face goes round
+-- it; no two vertices have one point; each edge that isn't locally Delaunay is a constraint, and inside the circle of no triangle is a vertex
+-- that it sees past no constraint. If all points are on one line, it is a path along it.
 pub record IsConstrainedTriangulation (t : Marked) : Type 0 where
+  pub closed : (marked_mesh t).shape.removal ≡ Closed
+  pub triangles : AllTriangles (marked_mesh t).shape
+  pub joined : (v : ℕ) → 1 < (marked_mesh t).shape.vertices → ¬ IsUnconnected (marked_mesh t).shape v
   pub plane : TrianglesTurnLeft (point_at (marked_mesh t)) (marked_mesh t).shape
   pub apart : FacesAreApart (marked_mesh t)
   pub covers : 1 < face_count (marked_mesh t).shape → HullIsCovered (marked_mesh t)
   pub single : PointsAreSingle (marked_mesh t)
   pub hull : GoesRoundHull (marked_mesh t)
+  pub constrained : IsConstrainedDelaunay (marked_mesh t)
   pub visible : CirclesInSightAreEmpty (marked_mesh t)
 
 -- the ends of the edges that are constraints, by number

@@ -1,7 +1,7 @@
 //! What a removal gave up taken out, with the vertex, and the edges that are listed by their new
 //! numbers.
 
-ghost use Rattle.std.specs.Prelude.{◌≡◌, ◌-◌, ◌<◌, ◌≤◌, ◌==◌, ◌↔◌, ◌+◌, IsTrue, None, Some, cond, length, map, reverse, slice_index_or, slice_set, true, false, vec_len, ℕ};
+ghost use Rattle.std.specs.Prelude.{◌≡◌, ◌-◌, ◌<◌, ◌≤◌, ◌==◌, ◌↔◌, ◌+◌, IsTrue, None, Some, cond, length, map, reverse, slice_get, slice_set, true, false, vec_len, ℕ};
 ghost use Rattle.std.specs.List.{list_any};
 ghost use Rattle.dcel_maps.specs.Removals.{Cleaned, IsListed};
 ghost use Rattle.dcel_maps.specs.Renumbered.{new_edge};
@@ -31,7 +31,7 @@ pub(crate) fn take_out<UE: Drop, A: Allocator, L: Allocator, B: Allocator>(
     requires given_up { cleaned dcel.old.shape.removal ≡ Cleaned vertex }
     ensures edit { dcel.new ≡ vertex_taken_out (cleaned_up dcel.old) vertex }
     ensures due { due.new.items ≡ map (new_edge dcel.old.shape) due.old.items }
-    ensures point { result.point ≡ slice_index_or (cleaned_up dcel.old).vertex_data vertex result.point }
+    ensures point { slice_get (cleaned_up dcel.old).vertex_data vertex ≡ Some result.point }
     ensures moved { let last = (cleaned_up dcel.old).shape.vertices - 1 in
         result.moved ≡ cond (vertex == last) None (Some last) }
     ensures clean { IsMesh (cleaned_up dcel.old) }

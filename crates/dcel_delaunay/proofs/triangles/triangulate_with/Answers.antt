@@ -1,8 +1,10 @@
 use Rattle.std.proofs.Common.{◌≡◌, ◌∙◌, ℕ, List, sym, subst, ap}
+use Rattle.std.proofs.lemmas.Result.{err_from_is_err_and}
 use Rattle.dcel_maps.specs.Triangulations.{AllTriangles}
 use Rattle.dcel_delaunay.specs.Listing.{NamesLeast}
 use Rattle.dcel_delaunay.proofs.listing.Known.{IsKnown, Points}
 use Rattle.dcel_delaunay.proofs.listing.Seen.{known_of, triangulated_seen}
+use Rattle.dcel_delaunay.proofs.listing.TooMany.{triangulation_fails}
 use Rattle.dcel_delaunay.proofs.triangles.triangulate_with.Goals as goal
 
 pub list_triangles-requires-clause-triangles : goal.list_triangles-requires-clause-triangles
@@ -11,7 +13,7 @@ list_triangles-requires-clause-triangles g c =
 
 pub returns-clause-triangles : goal.returns-clause-triangles
 returns-clause-triangles g c =
-    let m : Points = c.insert_all_with.new.self.planar.dcel in
+    let m : Points = c.insert_all_with-inserted.new.self.planar.dcel in
     let seen : Points = c.dcel-mesh.result.now in
     let same : seen ≡ m = c.dcel-mesh.ensures.mesh in
     let points = c.args.points.now in
@@ -29,3 +31,11 @@ returns-clause-triangles g c =
 
 pub returns-clause-told : goal.returns-clause-told
 returns-clause-told g c = c.in_ok-vertices.ensures.told
+
+pub returns-in_err-vertices-clause-fails : goal.returns-in_err-vertices-clause-fails
+returns-in_err-vertices-clause-fails g c =
+    let mesh = c.dcel-mesh.ensures in
+    let given = err_from_is_err_and c.from_residual-in_err-vertices.result c.from_residual-in_err-vertices.ensures.1 in
+    rw (given.1, given.2)
+    (triangulation_fails c.in_ok-triangulation.triangulation.planar c.insert_all_with-inserted.new.self.planar c.dcel-mesh.result.now c.args.points.now _ mesh.mesh
+    c.every_mesh.ensures mesh.closed mesh.triangles mesh.single c.in_ok-triangulation.ensures.empty c.insert_all_with-inserted.ensures.adds _ c.in_err-vertices.ensures.fails)

@@ -83,9 +83,12 @@ returns-clause-triangles g c = λ points numbers numbered stand.
       mesh = known.mesh;
       closed = facts.closed;
       triangles = facts.triangles;
+      joined = facts.joined;
       plane = facts.plane;
       apart = facts.apart known.whole;
       covers = facts.covers known.whole;
+      single = facts.single known.whole;
       hull = facts.hull known.whole;
+      constrained = facts.constrained known.whole;
       visible = facts.visible known.whole;
     }

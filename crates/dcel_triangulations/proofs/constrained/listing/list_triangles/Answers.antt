@@ -11,10 +11,14 @@ returns-in-Ok-clause-constrained c =
     λ _ _.
     subst (λ (kept : Kept). IsSo (λ (t : State). IsWhole t → IsConstrainedTriangulation t) kept) c.as_mut.ensures.value
     (λ whole. record {
+      closed = known.closed;
+      triangles = known.triangles;
+      joined = known.joined;
       plane = known.plane;
       apart = known.apart whole;
       covers = known.covers whole;
       single = known.single whole;
       hull = known.hull whole;
+      constrained = known.constrained whole;
       visible = known.visible whole;
     })
