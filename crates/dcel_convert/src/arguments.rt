@@ -1,9 +1,9 @@
 //! The words that the program is started with.
 
-use dcel_programs::{Choice, Given, Program, Switch, Takes};
+use dcel_programs::{Choice, Given, Program, Switch, Takes, Target};
 
 /// What a file is read as.
-#[derive(Clone, Copy, PartialEq, Eq)]
+#[derive(Clone, Copy)]
 pub enum Source {
     /// The Object File Format.
     Off,
@@ -18,7 +18,7 @@ pub enum Source {
 }
 
 /// How a mesh is written.
-#[derive(Clone, Copy, PartialEq, Eq)]
+#[derive(Clone, Copy)]
 pub enum Format {
     /// The Object File Format.
     Off,
@@ -31,7 +31,7 @@ pub enum Format {
 }
 
 /// What is written.
-#[derive(Clone, Copy, PartialEq, Eq)]
+#[derive(Clone, Copy)]
 pub enum Output {
     /// The mesh, in a format.
     Mesh(Format),
@@ -44,12 +44,14 @@ pub enum Output {
 }
 
 impl Output {
+    /// Returns whether it is only told whether the file has a mesh.
+    pub fn is_check(self) -> bool {
+        matches!(self, Output::Check)
+    }
+
     /// Returns whether nothing is told but what is wrong.
     pub fn is_silent(self) -> bool {
-        match self {
-            Output::Check | Output::CheckDelaunay => true,
-            _ => false,
-        }
+        matches!(self, Output::Check | Output::CheckDelaunay)
     }
 }
 
@@ -64,6 +66,10 @@ pub struct Arguments<'a> {
     pub output: Output,
     /// The file to write; if there is none, standard output.
     pub target: Option<&'a str>,
+    /// The file that is read, if it must not be written: one to write is named behind it.
+    pub kept: Option<&'a str>,
+    /// Whether an option or the ending of the file to write says what to write.
+    pub has_format: bool,
     /// The file for a picture.
     pub svg: Option<&'a str>,
     /// Whether each part of a surface becomes a mesh of its own.
@@ -150,6 +156,10 @@ pub const PROGRAM: Program<'static, Output> = Program {
     ],
     choices: OUTPUTS,
     details: DETAILS,
+    output: Some(Target {
+        help: "The file to write, which isn't FILE, in the format that its ending tells",
+        excludes: &["output", "check", "check-delaunay"],
+    }),
 };
 
 /// What is written.
@@ -203,21 +213,29 @@ impl<'a> Arguments<'a> {
     /// name of the file for it says.
     pub fn of(given: &Given<'a>) -> Self {
         let file = given.input();
-        let target = given.file("output");
+        let second = given.output();
+        let target = second.or(given.file("output"));
+        let format = format_of(ending_of(target));
+        let choice = given.choice(OUTPUTS);
         Arguments {
             file,
             source: source_named(given.value("from").unwrap_or(ending_of(file))),
-            output: match given.choice(OUTPUTS) {
-                Some(output) => output,
-                None => Output::Mesh(format_named(ending_of(target))),
-            },
+            output: choice.unwrap_or(Output::Mesh(format.unwrap_or(Format::Off))),
             target,
+            kept: match second {
+                Some(_) => Some(file.unwrap_or(STANDARD_INPUT)),
+                None => None,
+            },
+            has_format: choice.is_some() || format.is_some(),
             svg: given.value("svg"),
             has_parts: given.has("parts"),
             are_placed: given.has("places"),
         }
     }
 }
+
+/// The path of the file that standard input is.
+const STANDARD_INPUT: &str = "/dev/stdin";
 
 /// Returns what stands behind the last point of a file's name, if there is one.
 fn ending_of(file: Option<&str>) -> &str {
@@ -235,23 +253,25 @@ fn source_named(name: &str) -> Source {
     if name.eq_ignore_ascii_case("stl") {
         return Source::Stl;
     }
-    match format_named(name) {
-        Format::Off => Source::Off,
-        Format::Obj => Source::Obj,
-        Format::Ply => Source::Ply,
-        Format::Words => Source::Words,
+    match format_of(name) {
+        Some(Format::Obj) => Source::Obj,
+        Some(Format::Ply) => Source::Ply,
+        Some(Format::Words) => Source::Words,
+        _ => Source::Off,
     }
 }
 
-/// Returns the format of this name, in upper or lower case, or else OFF.
-fn format_named(name: &str) -> Format {
-    if name.eq_ignore_ascii_case("obj") {
-        Format::Obj
+/// Returns the format of this name, in upper or lower case, if it is one.
+fn format_of(name: &str) -> Option<Format> {
+    if name.eq_ignore_ascii_case("off") {
+        Some(Format::Off)
+    } else if name.eq_ignore_ascii_case("obj") {
+        Some(Format::Obj)
     } else if name.eq_ignore_ascii_case("ply") {
-        Format::Ply
+        Some(Format::Ply)
     } else if name.eq_ignore_ascii_case("words") {
-        Format::Words
+        Some(Format::Words)
     } else {
-        Format::Off
+        None
     }
 }

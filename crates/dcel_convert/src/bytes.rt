@@ -4,7 +4,7 @@ use crate::fault::Wrong;
 use std::num::{f32_from_bits_with_nan, f64_from_bits_with_nan};
 
 /// In which order the bytes of a number are.
-#[derive(Clone, Copy, PartialEq, Eq, Drop)]
+#[derive(Clone, Copy, Drop)]
 pub enum Order {
     /// The least significant byte is first.
     Little,
@@ -13,7 +13,7 @@ pub enum Order {
 }
 
 /// How a number is written.
-#[derive(Clone, Copy, PartialEq, Eq, Drop)]
+#[derive(Clone, Copy, Drop)]
 pub enum NumberType {
     I8,
     U8,
@@ -38,7 +38,7 @@ impl NumberType {
 
     /// Returns whether such numbers are whole.
     pub fn is_whole(self) -> bool {
-        self != NumberType::F32 && self != NumberType::F64
+        !matches!(self, NumberType::F32 | NumberType::F64)
     }
 }
 

@@ -1,6 +1,6 @@
 //! What a file of words claims of a mesh, before anything of it is known to hold.
 
-use crate::fault::{Fault, Wrong};
+use crate::fault::{Fault, Wrong, at_line};
 use dcel_exchange::LinkLists;
 use std::alloc::{AllocError, Global};
 
@@ -79,29 +79,20 @@ impl Claim {
     /// Lists for each half edge the list of a kind that it stands in.
     fn list_owners(&self, alloc: Global, lines: Lines, owners: &mut Vec<u32>) -> Result<(), Fault> {
         let mut noted = vec![in alloc; None; self.num_looked_for(self.lists(lines))]?;
-        self.note_all(alloc, lines, &mut noted)?;
+        self.note_all(lines, &mut noted)?;
         match list_noted(&noted, owners)? {
             None => Ok(()),
-            Some(half) => Err(Fault::Line {
-                line: 1,
-                wrong: wrong_of(alloc, half, "nowhere", lines),
-            }),
+            Some(half) => Err(at_line(1, Wrong::NotOnce(half, "nowhere", lines.name()))),
         }
     }
 
     /// Notes of each half edge the list of a kind that it stands in.
-    fn note_all(
-        &self,
-        alloc: Global,
-        lines: Lines,
-        noted: &mut [Option<u32>],
-    ) -> Result<(), Fault> {
+    fn note_all(&self, lines: Lines, noted: &mut [Option<u32>]) -> Result<(), Fault> {
         for (owner, list) in (0..u32::MAX).zip(self.lists(lines)) {
             if let Some(half) = note(list, owner, noted) {
-                return Err(Fault::Line {
-                    line: self.line_of(lines, owner as usize),
-                    wrong: wrong_of(alloc, half as usize, "twice", lines),
-                });
+                let line = self.line_of(lines, owner as usize);
+                let wrong = Wrong::NotOnce(half as usize, "twice", lines.name());
+                return Err(at_line(line, wrong));
             }
         }
         Ok(())
@@ -117,12 +108,6 @@ impl Claim {
         }
         self.edges.saturating_mul(2).min(listed.saturating_add(1))
     }
-}
-
-/// Returns that a half edge stands nowhere or twice in the lines of a kind.
-fn wrong_of(alloc: Global, half: usize, times: &str, lines: Lines) -> Wrong {
-    let lines = lines.name();
-    Wrong::text(format!(in alloc; "half edge {half} stands {times} in the {lines}"))
 }
 
 /// Notes that these half edges stand in this list, or returns one that stands in a list already.

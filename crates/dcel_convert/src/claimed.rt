@@ -1,7 +1,7 @@
 //! The mesh that a file of words claims.
 
 use crate::claim::{Claim, Lines};
-use crate::fault::{Fault, Wrong};
+use crate::fault::{Fault, Wrong, at_all, at_line};
 use crate::meshing::{Mesh, Solid, is_simple, list_corners};
 use dcel_exchange::LinkLists;
 use spade_dcel::handles::{FixedDirectedEdgeHandle, FixedFaceHandle, PossiblyOuterTag};
@@ -41,13 +41,13 @@ fn linked(alloc: Global, claim: &Claim, links: &LinkLists) -> Result<Solid, Faul
             mesh,
             outer: claim.closed,
         }),
-        Err(refused) => Err(fault_of(alloc, refused.reason, claim, links)),
+        Err(refused) => Err(fault_of(refused.reason, claim, links)),
     }
 }
 
 /// Looks whether the mesh has the turns and the outer face that are claimed.
 pub fn check(alloc: Global, mesh: &Mesh, claim: &Claim) -> Result<(), Fault> {
-    check_turns(alloc, mesh, claim)?;
+    check_turns(mesh, claim)?;
     check_outer(alloc, mesh, claim)
 }
 
@@ -79,15 +79,11 @@ fn fill_edges(edges: usize, data: &mut Vec<EdgeData<(), ()>>) -> Result<(), Allo
 }
 
 /// Looks for a turn in another order than that of `ccw` in the mesh.
-fn check_turns(alloc: Global, mesh: &Mesh, claim: &Claim) -> Result<(), Fault> {
+fn check_turns(mesh: &Mesh, claim: &Claim) -> Result<(), Fault> {
     for (vertex, turn) in claim.turns.iter().enumerate() {
         if let Some((half, after, said)) = other_turn(mesh, turn) {
-            return Err(Fault::Line {
-                line: claim.line_of(Lines::Turns, vertex),
-                wrong: Wrong::text(format!(in alloc;
-                    "after half edge {half} comes half edge {after} by ccw, and not {said}"
-                )),
-            });
+            let line = claim.line_of(Lines::Turns, vertex);
+            return Err(at_line(line, Wrong::OtherTurn(half, after, said)));
         }
     }
     Ok(())
@@ -112,10 +108,8 @@ fn other_turn(mesh: &Mesh, turn: &[u32]) -> Option<(u32, usize, u32)> {
 /// Looks whether the outer face can be one of the surface, if it is said to be.
 fn check_outer(alloc: Global, mesh: &Mesh, claim: &Claim) -> Result<(), Fault> {
     if claim.closed.is_some() && !can_be_outer(alloc, mesh)? {
-        return Err(Fault::Line {
-            line: claim.line_of(Lines::Turns, claim.turns.len()),
-            wrong: Wrong::NO_OUTER_FACE,
-        });
+        let line = claim.line_of(Lines::Turns, claim.turns.len());
+        return Err(at_line(line, Wrong::NO_OUTER_FACE));
     }
     Ok(())
 }
@@ -133,16 +127,16 @@ fn can_be_outer(alloc: Global, mesh: &Mesh) -> Result<bool, AllocError> {
 }
 
 /// Returns the reason, with the line that shows it, if one does.
-fn fault_of(alloc: Global, reason: LinksError, claim: &Claim, links: &LinkLists) -> Fault {
+fn fault_of(reason: LinksError, claim: &Claim, links: &LinkLists) -> Fault {
     let fault = match reason {
         LinksError::Links(fault) => fault,
         LinksError::OutOfMemory => return Fault::OutOfMemory(AllocError),
-        other => return Fault::Input(Wrong::text(format!(in alloc; "{other}"))),
+        other => return at_all(Wrong::Lists(other)),
     };
-    let wrong = Wrong::text(format!(in alloc; "{fault}"));
+    let wrong = Wrong::Links(fault);
     match line_of(fault, claim, links) {
-        Some(line) => Fault::Line { line, wrong },
-        None => Fault::Input(wrong),
+        Some(line) => at_line(line, wrong),
+        None => at_all(wrong),
     }
 }
 

@@ -4,7 +4,7 @@ ghost use Rattle.std.specs.Prelude.{◌<◌, OnErr, OnOk};
 ghost use Rattle.dcel_plane.specs.Plane.{point_at};
 ghost use Rattle.dcel_plane.specs.covering.Delaunay.{IsDelaunayTriangulation};
 
-use crate::fault::{Fault, Wrong};
+use crate::fault::{Fault, Wrong, at_all};
 use crate::meshing::fault_of;
 use crate::surface::Surface;
 use dcel_decimals::{Decimal, DecimalError, Scale};
@@ -23,13 +23,13 @@ type PlaneMesh = Dcel<Point, (), (), ()>;
 ///
 /// Vertices and faces are told by their places in the file, from 0 on.
 #[derive(Clone, Copy, Drop)]
-enum Flaw {
+pub enum Flaw {
     /// The first vertex and this one are not at one height.
     OtherHeight(usize),
     /// A coordinate of this vertex has too many digits.
     TooManyDigits(usize),
-    /// A coordinate of this vertex is further from 0 than this.
-    OutOfRange(usize, Decimal),
+    /// A coordinate of this vertex, times this scale, is out of the range of points.
+    OutOfRange(usize, u64),
     /// This face has more than three corners.
     NoTriangle(usize),
     /// This face is a triangle that goes round clockwise, or whose corners stand on one line.
@@ -56,7 +56,8 @@ impl fmt::Display for Flaw {
             Flaw::TooManyDigits(vertex) => {
                 write!(f, "a coordinate of vertex {vertex} has too many digits")
             }
-            Flaw::OutOfRange(vertex, limit) => {
+            Flaw::OutOfRange(vertex, scale) => {
+                let limit = limit_by(scale);
                 write!(
                     f,
                     "a coordinate of vertex {vertex} is below -{limit} or above {limit}"
@@ -80,9 +81,14 @@ impl fmt::Display for Flaw {
     }
 }
 
+/// Returns the greatest coordinate that a scale leaves in the range of points.
+fn limit_by(scale: u64) -> Decimal {
+    Decimal::from_scaled(Point::LIMIT as i64, Scale::of(scale).unwrap_or(Scale::ONE))
+}
+
 /// Returns that a coordinate is out of the range of points, where it is multiplied by this scale.
 fn out_of_range(vertex: usize, scale: Scale) -> Flaw {
-    Flaw::OutOfRange(vertex, Decimal::from_scaled(Point::LIMIT as i64, scale))
+    Flaw::OutOfRange(vertex, scale.factor())
 }
 
 /// Tells why the faces are no Delaunay triangulation of the vertices, unless they are one.
@@ -92,35 +98,34 @@ fn out_of_range(vertex: usize, scale: Scale) -> Flaw {
 pub fn check_delaunay(alloc: Global, surface: &Surface) -> Result<(), Fault> {
     let points = points_of(alloc, surface)?;
     match from_faces(alloc, points, &surface.faces) {
-        Ok(mesh) => check_mesh(alloc, surface, &mesh),
+        Ok(mesh) => check_mesh(surface, &mesh),
         Err(refused) => Err(fault_of(alloc, refused.reason, surface.places.len(), surface)),
     }
 }
 
 /// Tells why a mesh is no Delaunay triangulation of its vertices, unless it is one.
-fn check_mesh(alloc: Global, surface: &Surface, mesh: &PlaneMesh) -> Result<(), Fault>
+fn check_mesh(surface: &Surface, mesh: &PlaneMesh) -> Result<(), Fault>
     ensures is_one { OnOk result (IsDelaunayTriangulation (point_at mesh.now) mesh.now.shape) }
     ensures is_none { OnErr result (¬ IsDelaunayTriangulation (point_at mesh.now) mesh.now.shape) }
 {
     if is_delaunay_triangulation(mesh) {
         Ok(())
     } else {
-        Err(reason_of(alloc, surface, mesh))
+        Err(reason_of(surface, mesh))
     }
 }
 
 /// Returns where the vertices stand, with coordinates that a scale makes whole.
 fn points_of(alloc: Global, surface: &Surface) -> Result<Vec<Point>, Fault> {
     let mut coordinates = Vec::new(alloc);
-    list_coordinates(alloc, surface, &mut coordinates)?;
+    list_coordinates(surface, &mut coordinates)?;
     let mut points = Vec::new(alloc);
-    list_points(alloc, surface, &coordinates, &mut points)?;
+    list_points(surface, &coordinates, &mut points)?;
     Ok(points)
 }
 
 /// Lists the points that have these coordinates, two each.
 fn list_points(
-    alloc: Global,
     surface: &Surface,
     coordinates: &[Decimal],
     points: &mut Vec<Point>,
@@ -130,7 +135,7 @@ fn list_points(
     for (vertex, pair) in coordinates.chunks(2).enumerate() {
         if let &[x, y] = pair {
             let Some(point) = point_at(x, y, scale) else {
-                return Err(at_vertex(alloc, surface, vertex, out_of_range(vertex, scale)));
+                return Err(at_vertex(surface, vertex, out_of_range(vertex, scale)));
             };
             points.push(point)?;
         }
@@ -139,16 +144,12 @@ fn list_points(
 }
 
 /// Lists the first two coordinates of each vertex, if the third one is the same for all.
-fn list_coordinates(
-    alloc: Global,
-    surface: &Surface,
-    coordinates: &mut Vec<Decimal>,
-) -> Result<(), Fault> {
+fn list_coordinates(surface: &Surface, coordinates: &mut Vec<Decimal>) -> Result<(), Fault> {
     let mut height = None;
     for (vertex, place) in surface.places.iter().enumerate() {
         let (x, y) = match flat_place(vertex, place.as_str(), &mut height) {
             Ok(place) => place,
-            Err(flaw) => return Err(at_vertex(alloc, surface, vertex, flaw)),
+            Err(flaw) => return Err(at_vertex(surface, vertex, flaw)),
         };
         coordinates.extend_from_slice(&[x, y])?;
     }
@@ -196,21 +197,21 @@ fn point_at(x: Decimal, y: Decimal, scale: Scale) -> Option<Point> {
 }
 
 /// Returns why a mesh is no Delaunay triangulation of its vertices, if it is none.
-fn reason_of(alloc: Global, surface: &Surface, mesh: &PlaneMesh) -> Fault {
+fn reason_of(surface: &Surface, mesh: &PlaneMesh) -> Fault {
     if mesh.num_faces() == 1 {
-        return Fault::Input(Wrong::Plain("there is no face"));
+        return at_all(Wrong::Plain("there is no face"));
     }
     if let Some((face, flaw)) = flaw_of_face(mesh) {
-        return surface.at_face(alloc, face, wrong_of(alloc, flaw));
+        return surface.at_face(face, Wrong::Flaw(flaw));
     }
     if let Some(vertex) = vertex_without_edge(mesh) {
-        return at_vertex(alloc, surface, vertex, Flaw::NoEdge(vertex));
+        return at_vertex(surface, vertex, Flaw::NoEdge(vertex));
     }
     let flaw = match flaw_of_edge(mesh) {
         Some(flaw) => flaw,
         None => flaw_of_border(mesh),
     };
-    Fault::Input(wrong_of(alloc, flaw))
+    at_all(Wrong::Flaw(flaw))
 }
 
 /// Returns the first face that is no counterclockwise triangle, and which of both it isn't.
@@ -282,10 +283,6 @@ fn flaw_of_border(mesh: &PlaneMesh) -> Flaw {
     Flaw::NotOnce
 }
 
-fn at_vertex(alloc: Global, surface: &Surface, vertex: usize, flaw: Flaw) -> Fault {
-    surface.at_vertex(alloc, vertex, wrong_of(alloc, flaw))
-}
-
-fn wrong_of(alloc: Global, flaw: Flaw) -> Wrong {
-    Wrong::text(format!(in alloc; "{flaw}"))
+fn at_vertex(surface: &Surface, vertex: usize, flaw: Flaw) -> Fault {
+    surface.at_vertex(vertex, Wrong::Flaw(flaw))
 }

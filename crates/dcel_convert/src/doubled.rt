@@ -1,6 +1,6 @@
 //! Edges that join the same two vertices: half edges tell them apart, and corners of faces don't.
 
-use crate::fault::{Fault, Wrong};
+use crate::fault::{Fault, Wrong, at_all};
 use crate::meshing::{Mesh, repeated};
 use std::alloc::{AllocError, Global};
 
@@ -9,9 +9,7 @@ use std::alloc::{AllocError, Global};
 pub fn refuse_doubled(alloc: Global, mesh: &Mesh) -> Result<(), Fault> {
     match doubled_ends(alloc, mesh)? {
         None => Ok(()),
-        Some((from, to)) => Err(Fault::Input(Wrong::text(format!(in alloc;
-            "two edges join vertices {from} and {to}: words alone can tell them apart"
-        )))),
+        Some((from, to)) => Err(at_all(Wrong::Doubled(from, to))),
     }
 }
 

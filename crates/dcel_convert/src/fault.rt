@@ -1,23 +1,68 @@
 //! Why the program gives up.
 
-use crate::shown::shown;
+use crate::delaunay_check::Flaw;
+use crate::shown::Excerpt;
 use crate::stats::Stats;
-use std::alloc::{AllocError, Global};
+use dcel_exchange::FacesError;
+use spade_dcel::operations::{LinksError, LinksFault};
+use std::alloc::AllocError;
 use std::fmt::{self, Debug, Display, Formatter};
 use thiserror::Error;
 
 /// Why the program gives up.
-pub type Fault = dcel_programs::Fault<Wrong>;
+pub type Fault = dcel_programs::Fault<Placed>;
 
 /// What is wrong with a file.
-#[derive(Drop, Error)]
+#[derive(Clone, Copy, Drop, Error)]
 pub enum Wrong {
     /// What a sentence says of any file.
-    #[error(transparent)]
+    #[error("{0}")]
     Plain(&'static str),
-    /// What a sentence says of this file.
-    #[error(transparent)]
-    Text(String),
+    /// What a sentence says of a word.
+    #[error("{0}: '{1}'")]
+    Quoted(&'static str, Excerpt),
+    /// The file has another first word.
+    #[error("the file begins with '{0}', and {1}")]
+    Beginning(Excerpt, &'static str),
+    /// The file is read as OFF, and has this format, of this name.
+    #[error("this looks like {0}, and not like OFF: --from {1} reads it")]
+    NotOff(&'static str, &'static str),
+    /// So many triangles take so many bytes, and the file has so many.
+    #[error("{0} triangles of binary STL take {1} bytes, and the file has {2}")]
+    StlLength(u32, u64, usize),
+    /// Two corners of a triangle are equal.
+    #[error("triangle {0} is degenerate: two of its corners are equal")]
+    Degenerate(usize),
+    /// A file of words lacks the word of a face.
+    #[error("the word of face {0} is missing, a line that begins with F{0}")]
+    NoWord(usize),
+    /// It lacks the half edges out of a vertex.
+    #[error("the half edges out of vertex {0} are missing, a line that begins with out")]
+    NoTurn(usize),
+    /// It has a half edge that no edge has.
+    #[error("there is no half edge {0}")]
+    NoHalfEdge(u32),
+    /// It has a half edge so many times in the lines of a kind.
+    #[error("half edge {0} stands {1} in the {2}")]
+    NotOnce(usize, &'static str, &'static str),
+    /// After a half edge comes another one out of a vertex than it has.
+    #[error("after half edge {0} comes half edge {1} by ccw, and not {2}")]
+    OtherTurn(u32, usize, u32),
+    /// Two edges have the same ends.
+    #[error("two edges join vertices {0} and {1}: words alone can tell them apart")]
+    Doubled(usize, usize),
+    /// The faces are no mesh.
+    #[error("{0}")]
+    Faces(FacesError),
+    /// The half edges are no mesh.
+    #[error("{0}")]
+    Links(LinksFault),
+    /// Their lists are none.
+    #[error("{0}")]
+    Lists(LinksError),
+    /// The mesh is no Delaunay triangulation.
+    #[error("{0}")]
+    Flaw(Flaw),
     /// The surface as a whole is none that is taken.
     #[error("the surface has {0}; taken is one part, of genus 0, with at most one border")]
     Surface(Stats),
@@ -33,34 +78,81 @@ impl Debug for Wrong {
 }
 
 impl Wrong {
-    /// Makes it of a sentence, for which there may have been no memory.
-    pub fn text(sentence: Result<String, AllocError>) -> Wrong {
-        match sentence {
-            Ok(sentence) => Wrong::Text(sentence),
-            Err(error) => Wrong::OutOfMemory(error),
-        }
-    }
-
     /// Makes it of a sentence and the word of the file that it is about.
-    pub fn quoting(alloc: Global, sentence: &str, word: &str) -> Wrong {
-        match shown(alloc, word) {
-            Ok(word) => Wrong::text(format!(in alloc; "{sentence}: '{word}'")),
-            Err(error) => Wrong::OutOfMemory(error),
-        }
+    pub fn quoting(sentence: &'static str, word: &str) -> Wrong {
+        Wrong::Quoted(sentence, Excerpt::of(word))
     }
 
     /// Makes it of what a file begins with, and what is to be said of that.
-    pub fn beginning(alloc: Global, word: &str, rest: &str) -> Wrong {
-        match shown(alloc, word) {
-            Ok(word) => Wrong::text(format!(in alloc; "the file begins with '{word}', and {rest}")),
-            Err(error) => Wrong::OutOfMemory(error),
+    pub fn beginning(word: &str, rest: &'static str) -> Wrong {
+        Wrong::Beginning(Excerpt::of(word), rest)
+    }
+}
+
+/// What is wrong, with the place that shows it, if that is no line.
+#[derive(Clone, Copy, Drop)]
+pub struct Placed {
+    /// The part of the surface, from 0 on.
+    part: Option<usize>,
+    /// The byte of the file, from 0 on.
+    byte: Option<usize>,
+    /// What is wrong there.
+    pub wrong: Wrong,
+}
+
+impl Placed {
+    /// Makes it of its place and what is wrong there.
+    fn new(part: Option<usize>, byte: Option<usize>, wrong: Wrong) -> Self {
+        Placed { part, byte, wrong }
+    }
+}
+
+impl Display for Placed {
+    fn fmt<W: fmt::Write>(&self, f: &mut Formatter<W>) -> fmt::Result {
+        if let Some(part) = self.part {
+            write!(f, "part {part}: ")?;
         }
+        if let Some(byte) = self.byte {
+            write!(f, "byte {byte}: ")?;
+        }
+        Display::fmt(&self.wrong, f)
+    }
+}
+
+impl Debug for Placed {
+    fn fmt<W: fmt::Write>(&self, f: &mut Formatter<W>) -> fmt::Result {
+        Display::fmt(self, f)
+    }
+}
+
+/// Returns what is wrong with the input as a whole.
+pub fn at_all(wrong: Wrong) -> Fault {
+    Fault::Input(Placed::new(None, None, wrong))
+}
+
+/// Returns what is wrong with a line, from 1 on.
+pub fn at_line(line: usize, wrong: Wrong) -> Fault {
+    Fault::Line {
+        line,
+        wrong: Placed::new(None, None, wrong),
     }
 }
 
 /// Returns what is wrong with a binary file, with the byte, from 0 on, that shows it.
-pub fn at_byte(alloc: Global, byte: usize, wrong: Wrong) -> Fault {
-    Fault::Input(Wrong::text(format!(in alloc; "byte {byte}: {wrong}")))
+pub fn at_byte(byte: usize, wrong: Wrong) -> Fault {
+    Fault::Input(Placed::new(None, Some(byte), wrong))
+}
+
+/// Returns what is wrong with a part, with its number.
+pub fn of_part(part: usize, fault: Fault) -> Fault {
+    match fault {
+        Fault::Input(it) => Fault::Input(Placed::new(Some(part), it.byte, it.wrong)),
+        Fault::Line { line, wrong } => Fault::Line {
+            line,
+            wrong: Placed::new(Some(part), wrong.byte, wrong.wrong),
+        },
+        other => other,
+    }
 }
 
 /// A number is not written as one, or out of range.

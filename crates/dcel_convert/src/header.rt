@@ -1,7 +1,6 @@
 //! The first word of a file in the Object File Format.
 
 use crate::fault::Wrong;
-use std::alloc::Global;
 
 /// The first words that are known, with how many numbers each vertex has behind its coordinates:
 /// two of a texture (`ST`), four of a color (`C`), three of a normal (`N`).
@@ -21,7 +20,7 @@ const OBJ_WORDS: [&str; 10] = ["v", "vn", "vt", "f", "o", "g", "s", "l", "mtllib
 
 /// Returns how many numbers each vertex has behind its coordinates in a file that begins so, or
 /// what such a file looks like.
-pub fn extras_of(alloc: Global, first: &str) -> Result<usize, Wrong> {
+pub fn extras_of(first: &str) -> Result<usize, Wrong> {
     // A small n tells of another number of coordinates.
     if !first.ends_with("nOFF") {
         for (known, extras) in HEADERS {
@@ -30,7 +29,7 @@ pub fn extras_of(alloc: Global, first: &str) -> Result<usize, Wrong> {
             }
         }
     }
-    Err(fault_of(alloc, first))
+    Err(fault_of(first))
 }
 
 /// The first words of other formats, with the formats.
@@ -40,25 +39,19 @@ const OTHERS: [(&str, &str, &str); 3] = [
     ("vertices", "words", "words"),
 ];
 
-fn fault_of(alloc: Global, first: &str) -> Wrong {
+fn fault_of(first: &str) -> Wrong {
     if OBJ_WORDS.contains(&first) {
-        return looks_like(alloc, "OBJ", "obj");
+        return Wrong::NotOff("OBJ", "obj");
     }
     for (known, format, name) in OTHERS {
         if first == known {
-            return looks_like(alloc, format, name);
+            return Wrong::NotOff(format, name);
         }
     }
     if is_other_off(first) {
-        return Wrong::beginning(alloc, first, "OFF is read with three coordinates alone");
+        return Wrong::beginning(first, "OFF is read with three coordinates alone");
     }
-    Wrong::beginning(alloc, first, "not with OFF")
-}
-
-fn looks_like(alloc: Global, format: &str, name: &str) -> Wrong {
-    Wrong::text(format!(in alloc;
-        "this looks like {format}, and not like OFF: --from {name} reads it"
-    ))
+    Wrong::beginning(first, "not with OFF")
 }
 
 /// Returns whether it is a kind of OFF, as `4OFF` and `nOFF`.

@@ -1,7 +1,8 @@
 //! What a file has and a mesh has no place for.
 
-use crate::shown::{beginning, shown};
+use crate::shown::{Excerpt, beginning};
 use std::alloc::{AllocError, Global};
+use std::fmt::Display;
 use std::io;
 
 /// How many words of a file are named.
@@ -58,27 +59,26 @@ impl LeftOut {
     }
 
     /// Names on standard error what is left out, and how often.
-    pub fn tell(&self, rt: &(impl Eprint + AllocGlobal)) -> io::Result<()> {
+    pub fn tell(&self, rt: &impl Eprint) -> io::Result<()> {
         self.tell_words(rt)?;
         tell_left_out(rt, "lines that begin with still other words", self.others)?;
         for (what, times) in &self.kinds {
-            tell_left_out(rt, what, *times)?;
+            tell_left_out(rt, *what, *times)?;
         }
         Ok(())
     }
 
     /// Names the words that nothing is known of.
-    fn tell_words(&self, rt: &(impl Eprint + AllocGlobal)) -> io::Result<()> {
+    fn tell_words(&self, rt: &impl Eprint) -> io::Result<()> {
         for (word, lines) in &self.words {
-            let name = shown(rt.alloc(), word.as_str())?;
-            tell_left_out(rt, name.as_str(), *lines)?;
+            tell_left_out(rt, Excerpt::of(word.as_str()), *lines)?;
         }
         Ok(())
     }
 }
 
 /// Names what is left out, and how often.
-pub fn tell_left_out(rt: &impl Eprint, what: &str, times: usize) -> io::Result<()> {
+pub fn tell_left_out(rt: &impl Eprint, what: impl Display + Drop, times: usize) -> io::Result<()> {
     if times > 0 {
         eprintln!(rt; "dcel_convert: left out: {what} ({times})")?;
     }

@@ -30,6 +30,7 @@ mod shown;
 mod stats;
 mod stl;
 mod surface;
+mod target;
 mod words;
 mod writing;
 
@@ -39,35 +40,51 @@ use crate::claimed::{check, claimed_mesh};
 use crate::delaunay_check::check_delaunay;
 use crate::doubled::refuse_doubled;
 use crate::drawing::{Drawing, place_flat, place_vertices};
-use crate::fault::{Fault, Wrong};
+use crate::fault::{Fault, Wrong, at_all};
 use crate::left_out::tell_left_out;
 use crate::meshing::{Mesh, Solid};
 use crate::parts::{ALONE, check_faces, make_all, name_of, split};
 use crate::reading::{read_claim, read_surface};
 use crate::stats::Stats;
 use crate::surface::Surface;
+use crate::target::{check_target, check_targets};
 use crate::writing::Written;
-use dcel_programs::{Progress, run, write_out};
+use dcel_programs::{Progress, report_wait, run, write_out};
 use dcel_svg::{Places, spread};
+use std::io::IsTerminal;
 use std::process::ExitCode;
 use std::rt::Files;
 
 fn main(rt: HostRuntime) -> ExitCode {
     let progress = Progress::at(&rt.stderr());
+    let is_typed = rt.stdin().is_terminal();
     run(&rt, &PROGRAM, |given| {
-        convert(&rt, progress, &Arguments::of(given))
+        convert(&rt, progress, is_typed, &Arguments::of(given))
     })
 }
 
-/// Reads the file, makes its mesh, and writes what is asked for.
+/// Reads the file, makes its mesh, and writes what is asked for. Standard input may be typed at a
+/// terminal.
 fn convert(
+    rt: &(impl Files + Input + Print + Eprint + AllocGlobal),
+    progress: Progress,
+    is_typed: bool,
+    arguments: &Arguments,
+) -> Result<(), Fault> {
+    check_target(rt, arguments)?;
+    report_wait(rt, PROGRAM.name, is_typed && arguments.file.is_none())?;
+    convert_file(rt, progress, arguments)
+}
+
+/// Reads the file, makes its mesh, and writes what is asked for.
+fn convert_file(
     rt: &(impl Files + Input + Print + Eprint + AllocGlobal),
     progress: Progress,
     arguments: &Arguments,
 ) -> Result<(), Fault> {
-    if arguments.source == Source::Words {
+    if let Source::Words = arguments.source {
         if arguments.has_parts {
-            return Err(Fault::Input(Wrong::WORDS_IN_PARTS));
+            return Err(at_all(Wrong::WORDS_IN_PARTS));
         }
         let mut claim = Claim::new(rt.alloc());
         convert_words(rt, progress, arguments, &mut claim)
@@ -86,7 +103,7 @@ fn convert_faces(
 ) -> Result<(), Fault> {
     read_surface(rt, progress, arguments, surface)?;
     tell_of_surface(rt, arguments, surface)?;
-    if arguments.output == Output::CheckDelaunay {
+    if let Output::CheckDelaunay = arguments.output {
         return check_delaunay(rt.alloc(), surface);
     }
     if arguments.has_parts {
@@ -101,8 +118,8 @@ fn convert_parts(
     arguments: &Arguments,
     surface: &Surface,
 ) -> Result<(), Fault> {
-    if arguments.output != Output::Check && arguments.target.is_none() {
-        return Err(Fault::Input(Wrong::NO_FILES));
+    if !arguments.output.is_check() && arguments.target.is_none() {
+        return Err(at_all(Wrong::NO_FILES));
     }
     check_faces(rt.alloc(), surface)?;
     let mut parts = Vec::new(rt.alloc());
@@ -117,7 +134,7 @@ fn convert_split(
     parts: &mut Vec<Surface>,
 ) -> Result<(), Fault> {
     let alone = split(rt.alloc(), surface, parts)?;
-    if arguments.output != Output::Check {
+    if !arguments.output.is_check() {
         tell_left_out(rt, ALONE, alone)?;
     }
     let mut solids = Vec::new(rt.alloc());
@@ -132,6 +149,7 @@ fn write_parts(
     solids: &mut Vec<Solid>,
 ) -> Result<(), Fault> {
     make_all(rt.alloc(), parts, solids)?;
+    check_targets(rt, arguments, solids.len())?;
     for (number, solid) in solids.iter().enumerate() {
         write_part(rt, arguments, number, solid)?;
     }
@@ -145,25 +163,44 @@ fn write_part(
     number: usize,
     solid: &Solid,
 ) -> Result<(), Fault> {
-    let target = name_of(rt.alloc(), arguments.target.unwrap_or(""), number)?;
-    let svg = name_of(rt.alloc(), arguments.svg.unwrap_or(""), number)?;
-    let own = Arguments {
-        target: arguments.target.map(|_| target.as_str()),
-        svg: arguments.svg.map(|_| svg.as_str()),
-        file: arguments.file,
-        source: arguments.source,
-        output: arguments.output,
-        has_parts: true,
-        are_placed: arguments.are_placed,
-    };
-    if arguments.output != Output::Check {
+    if !arguments.output.is_check() {
         if let Some(place) = solid.outer {
             eprintln!(rt;
                 "dcel_convert: part {number} is closed: its face {place} becomes the outer face"
             )?;
         }
     }
-    write_marked(rt, &own, solid)
+    match arguments.target {
+        Some(target) => {
+            let target = name_of(rt.alloc(), target, number)?;
+            let own = Arguments {
+                target: Some(target.as_str()),
+                ..*arguments
+            };
+            draw_part(rt, &own, number, solid)
+        }
+        None => draw_part(rt, arguments, number, solid),
+    }
+}
+
+/// Writes what is asked for of a part, and draws it into a file of its own, if that is asked for.
+fn draw_part(
+    rt: &(impl Files + Print + Eprint + AllocGlobal),
+    arguments: &Arguments,
+    number: usize,
+    solid: &Solid,
+) -> Result<(), Fault> {
+    match arguments.svg {
+        Some(svg) => {
+            let svg = name_of(rt.alloc(), svg, number)?;
+            let own = Arguments {
+                svg: Some(svg.as_str()),
+                ..*arguments
+            };
+            write_marked(rt, &own, solid)
+        }
+        None => write_marked(rt, arguments, solid),
+    }
 }
 
 /// Makes the mesh of a surface, and writes what is asked for.
@@ -189,10 +226,10 @@ fn tell_of_surface(
         surface.left_out.tell(rt)?;
     }
     if surface.places.is_empty() && surface.faces.is_empty() {
-        return Err(Fault::Input(Wrong::NOTHING));
+        return Err(at_all(Wrong::NOTHING));
     }
-    if arguments.output == Output::Check && surface.faces.is_empty() {
-        return Err(Fault::Input(Wrong::NO_FACE));
+    if arguments.output.is_check() && surface.faces.is_empty() {
+        return Err(at_all(Wrong::NO_FACE));
     }
     Ok(())
 }
@@ -203,12 +240,23 @@ fn refuse_faces(
     arguments: &Arguments,
     fault: Fault,
 ) -> Result<(), Fault> {
-    if arguments.output == Output::Stats {
-        if let Fault::Input(Wrong::Surface(stats)) = &fault {
-            write_out(rt, arguments.target, stats)?;
+    if let Output::Stats = arguments.output {
+        if let Some(stats) = stats_of(&fault) {
+            write_out(rt, arguments.target, &stats)?;
         }
     }
     Err(fault)
+}
+
+/// Returns the numbers of a surface that is no mesh as a whole.
+fn stats_of(fault: &Fault) -> Option<Stats> {
+    match fault {
+        Fault::Input(it) => match it.wrong {
+            Wrong::Surface(stats) => Some(stats),
+            _ => None,
+        },
+        _ => None,
+    }
 }
 
 /// Writes what is asked for of a mesh of faces.
@@ -219,7 +267,7 @@ fn write_faces(
     solid: &mut Solid,
 ) -> Result<(), Fault> {
     solid.mark(rt.alloc(), &surface.faces)?;
-    if arguments.output != Output::Check {
+    if !arguments.output.is_check() {
         if let Some(place) = solid.outer {
             eprintln!(rt;
                 "dcel_convert: the surface is closed: face {place} becomes the outer face"
@@ -235,7 +283,7 @@ fn write_marked(
     arguments: &Arguments,
     solid: &Solid,
 ) -> Result<(), Fault> {
-    if arguments.output == Output::Mesh(Format::Words) {
+    if let Output::Mesh(Format::Words) = arguments.output {
         tell_left_out(rt, COORDINATES, solid.mesh.num_vertices())?;
     }
     write_solid(rt, arguments, solid)
@@ -304,7 +352,7 @@ fn write_solid(
     match arguments.output {
         Output::Check => Ok(()),
         // Faces are checked before, so these are words.
-        Output::CheckDelaunay => Err(Fault::Input(Wrong::NO_COORDINATES)),
+        Output::CheckDelaunay => Err(at_all(Wrong::NO_COORDINATES)),
         Output::Stats => write_out(rt, arguments.target, &Stats::of_mesh(solid)),
         Output::Mesh(format) => write_out(rt, arguments.target, &Written { format, solid }),
     }
@@ -333,7 +381,7 @@ fn draw_at(
     places: &mut Places,
 ) -> Result<(), Fault> {
     if !place_flat(rt.alloc(), mesh, places)? {
-        if arguments.source != Source::Words {
+        if !matches!(arguments.source, Source::Words) {
             tell_left_out(rt, COORDINATES, mesh.num_vertices())?;
         }
         *places = spread(rt.alloc(), mesh, None)?;

@@ -3,7 +3,7 @@
 ghost use Rattle.std.specs.Prelude.{◌≡◌, ◌+◌, MatchOption};
 ghost use Rattle.dcel_maps.specs.Shapes.{face_count};
 
-use crate::fault::{Fault, Wrong};
+use crate::fault::{Fault, Wrong, at_all};
 use crate::stats::Stats;
 use crate::surface::Surface;
 use dcel_exchange::{ClosedFacesError, FacesError, from_closed_faces, from_faces};
@@ -51,7 +51,7 @@ impl Solid {
     fn closed(alloc: Global, places: Vec<String>, surface: &Surface) -> Result<Solid, Fault> {
         let outer = match simple_face(alloc, &surface.faces) {
             Ok(Some(outer)) => outer,
-            Ok(None) => return Err(Fault::Input(Wrong::NO_BORDER)),
+            Ok(None) => return Err(at_all(Wrong::NO_BORDER)),
             Err(error) => return Err(Fault::OutOfMemory(error)),
         };
         match from_closed_faces(alloc, places, &surface.faces, outer) {
@@ -63,7 +63,7 @@ impl Solid {
                 ClosedFacesError::Others(reason) => {
                     Err(fault_of(alloc, reason, refused.back.len(), surface))
                 }
-                _ => Err(Fault::Input(Wrong::NO_BORDER)),
+                _ => Err(at_all(Wrong::NO_BORDER)),
             },
         }
     }
@@ -262,9 +262,9 @@ pub fn fault_of(alloc: Global, reason: FacesError, vertices: usize, surface: &Su
         FacesError::NoVertex(face, _) | FacesError::OneEnd(face, _) => face as usize,
         FacesError::SideTwice(_, face, _, _) => face as usize,
         _ if is_of_whole(reason) => return fault_of_whole(alloc, vertices, &surface.faces),
-        _ => return Fault::Input(Wrong::text(format!(in alloc; "{reason}"))),
+        _ => return at_all(Wrong::Faces(reason)),
     };
-    surface.at_face(alloc, face, Wrong::text(format!(in alloc; "{reason}")))
+    surface.at_face(face, Wrong::Faces(reason))
 }
 
 /// Returns whether only the surface as a whole has a fault: its parts may be meshes.
@@ -280,7 +280,7 @@ pub fn is_of_whole(reason: FacesError) -> bool {
 /// Tells what a surface as a whole is.
 fn fault_of_whole(alloc: Global, vertices: usize, faces: &[Vec<u32>]) -> Fault {
     match Stats::of_faces(alloc, vertices, faces) {
-        Ok(stats) => Fault::Input(Wrong::Surface(stats)),
+        Ok(stats) => at_all(Wrong::Surface(stats)),
         Err(error) => Fault::OutOfMemory(error),
     }
 }

@@ -53,7 +53,7 @@ impl NumberReader {
             self.behind -= 1;
             return Ok(());
         }
-        add_coordinate(alloc, &mut self.place, word)?;
+        add_coordinate(&mut self.place, word)?;
         self.coordinates = self.coordinates.saturating_add(1);
         if self.coordinates == 3 {
             self.end_vertex(alloc, line, surface)?;
@@ -86,7 +86,7 @@ impl NumberReader {
         word: &str,
         surface: &mut Surface,
     ) -> Result<(), Wrong> {
-        let number = number(alloc, word)?;
+        let number = number(word)?;
         let missing = match self.missing {
             None => number,
             Some(missing) => {

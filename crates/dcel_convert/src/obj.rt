@@ -110,7 +110,7 @@ fn take_face(
     surface: &mut Surface,
 ) -> Result<(), Wrong> {
     let mut corners = Vec::new(alloc);
-    let is_more = take_corners(alloc, words, surface.places.len(), &mut corners)?;
+    let is_more = take_corners(words, surface.places.len(), &mut corners)?;
     surface.add_face(line, corners)?;
     if is_more {
         surface.left_out.note("what follows a corner's slash")?;
@@ -120,7 +120,6 @@ fn take_face(
 
 /// Reads corners, and returns whether one has a slash.
 fn take_corners(
-    alloc: Global,
     words: SplitAsciiWhitespace,
     vertices: usize,
     corners: &mut Vec<u32>,
@@ -135,7 +134,7 @@ fn take_corners(
             None => word,
         };
         let Some(vertex) = vertex_of(corner, vertices) else {
-            return Err(Wrong::quoting(alloc, NO_NUMBER, corner));
+            return Err(Wrong::quoting(NO_NUMBER, corner));
         };
         corners.push(vertex)?;
     }

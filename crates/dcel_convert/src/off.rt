@@ -66,7 +66,7 @@ impl LineReader<Surface> for OffReader {
             return self.take_elements(alloc, line, words, surface);
         }
         match words.next() {
-            Some(first) => self.take_head(alloc, first, words),
+            Some(first) => self.take_head(first, words),
             None => Ok(()),
         }
     }
@@ -87,46 +87,31 @@ impl LineReader<Surface> for OffReader {
 
 impl OffReader {
     /// Reads a line before the elements that has this first word.
-    fn take_head(
-        &mut self,
-        alloc: Global,
-        first: &str,
-        words: SplitAsciiWhitespace,
-    ) -> Result<(), Wrong> {
+    fn take_head(&mut self, first: &str, words: SplitAsciiWhitespace) -> Result<(), Wrong> {
         match self.stage {
-            Stage::Word => self.take_word(alloc, first, words),
-            _ => self.take_counts(alloc, first, words),
+            Stage::Word => self.take_word(first, words),
+            _ => self.take_counts(first, words),
         }
     }
 
     /// Reads the word `OFF`, which the counts may follow.
-    fn take_word(
-        &mut self,
-        alloc: Global,
-        first: &str,
-        mut words: SplitAsciiWhitespace,
-    ) -> Result<(), Wrong> {
-        self.numbers.extras = extras_of(alloc, first)?;
+    fn take_word(&mut self, first: &str, mut words: SplitAsciiWhitespace) -> Result<(), Wrong> {
+        self.numbers.extras = extras_of(first)?;
         self.stage = Stage::Counts;
         match words.next() {
             Some("BINARY") => Err(Wrong::BINARY_OFF),
-            Some(count) => self.take_counts(alloc, count, words),
+            Some(count) => self.take_counts(count, words),
             None => Ok(()),
         }
     }
 
     /// Reads the counts of vertices and faces. That of edges, if it is there, may be any number.
-    fn take_counts(
-        &mut self,
-        alloc: Global,
-        first: &str,
-        mut words: SplitAsciiWhitespace,
-    ) -> Result<(), Wrong> {
-        self.vertices = number(alloc, first)? as usize;
+    fn take_counts(&mut self, first: &str, mut words: SplitAsciiWhitespace) -> Result<(), Wrong> {
+        self.vertices = number(first)? as usize;
         let Some(second) = words.next() else {
             return Err(Wrong::TOO_FEW);
         };
-        self.faces = number(alloc, second)? as usize;
+        self.faces = number(second)? as usize;
         self.stage = Stage::Elements;
         Ok(())
     }
@@ -200,7 +185,7 @@ fn take_face(
     surface: &mut Surface,
 ) -> Result<(), Wrong> {
     let mut corners = Vec::new(alloc);
-    take_corners(alloc, count, &mut words, &mut corners)?;
+    take_corners(count, &mut words, &mut corners)?;
     surface.add_face(line, corners)?;
     if words.next().is_some() {
         surface.left_out.note(BEHIND_CORNERS)?;
@@ -210,16 +195,15 @@ fn take_face(
 
 /// Reads so many corners.
 fn take_corners(
-    alloc: Global,
     count: &str,
     words: &mut SplitAsciiWhitespace,
     corners: &mut Vec<u32>,
 ) -> Result<(), Wrong> {
-    for _ in 0..number(alloc, count)? {
+    for _ in 0..number(count)? {
         let Some(word) = words.next() else {
             return Err(Wrong::TOO_FEW);
         };
-        corners.push(number(alloc, word)?)?;
+        corners.push(number(word)?)?;
     }
     Ok(())
 }

@@ -1,6 +1,6 @@
 //! The connected parts of a surface, each as a surface of its own.
 
-use crate::fault::{Fault, Wrong};
+use crate::fault::{Fault, of_part};
 use crate::meshing::{Solid, fault_of, is_of_whole};
 use crate::stats::{list_sides, number_parts};
 use crate::surface::Surface;
@@ -158,15 +158,26 @@ pub fn make_all(
     solids: &mut Vec<Solid>,
 ) -> Result<(), Fault> {
     for (number, part) in parts.iter_mut().enumerate() {
-        match Solid::of(alloc, part) {
-            Ok(solid) => push(solids, solid)?,
-            Err(fault) => return Err(of_part(alloc, number, fault)),
-        }
+        make(alloc, number, part, solids)?;
     }
-    for (solid, part) in solids.iter_mut().zip(parts.iter()) {
-        solid.mark(alloc, &part.faces)?;
-    }
+    mark_all(alloc, parts, solids)?;
     Ok(())
+}
+
+/// Makes the mesh of a part.
+fn make(
+    alloc: Global,
+    number: usize,
+    part: &mut Surface,
+    solids: &mut Vec<Solid>,
+) -> Result<(), Fault> {
+    match Solid::of(alloc, part) {
+        Ok(solid) => {
+            push(solids, solid)?;
+            Ok(())
+        }
+        Err(fault) => Err(of_part(number, fault)),
+    }
 }
 
 fn push(solids: &mut Vec<Solid>, solid: Solid) -> Result<(), AllocError> {
@@ -174,20 +185,12 @@ fn push(solids: &mut Vec<Solid>, solid: Solid) -> Result<(), AllocError> {
     Ok(())
 }
 
-/// Returns what is wrong with a part, with its number.
-fn of_part(alloc: Global, part: usize, fault: Fault) -> Fault {
-    match fault {
-        Fault::Input(wrong) => Fault::Input(named(alloc, part, wrong)),
-        Fault::Line { line, wrong } => Fault::Line {
-            line,
-            wrong: named(alloc, part, wrong),
-        },
-        other => other,
+/// Notes at each face where the list of its part begins.
+fn mark_all(alloc: Global, parts: &[Surface], solids: &mut [Solid]) -> Result<(), AllocError> {
+    for (solid, part) in solids.iter_mut().zip(parts) {
+        solid.mark(alloc, &part.faces)?;
     }
-}
-
-fn named(alloc: Global, part: usize, wrong: Wrong) -> Wrong {
-    Wrong::text(format!(in alloc; "part {part}: {wrong}"))
+    Ok(())
 }
 
 /// Returns the name of the file for a part: that of this file, with a hyphen and the part's number

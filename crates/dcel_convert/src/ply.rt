@@ -19,7 +19,7 @@ use std::mem;
 use std::str::SplitAsciiWhitespace;
 
 /// What the next line of a file should be.
-#[derive(Clone, Copy, PartialEq, Eq, Drop)]
+#[derive(Clone, Copy, Drop)]
 enum Stage {
     /// The word `ply`.
     Word,
@@ -78,13 +78,13 @@ impl LineReader<Surface> for PlyReader {
         let words = text.split_ascii_whitespace();
         match self.stage {
             Stage::Elements => self.take_numbers(alloc, line, words, surface),
-            Stage::Word => self.take_word(alloc, words),
+            Stage::Word => self.take_word(words),
             Stage::Header => self.take_header(alloc, words),
         }
     }
 
     fn end(&mut self, _: Global, _: &mut Surface) -> Result<(), Wrong> {
-        if self.stage != Stage::Elements || !self.elements.is_empty() {
+        if !matches!(self.stage, Stage::Elements) || !self.elements.is_empty() {
             return Err(Wrong::FEWER_LINES);
         }
         Ok(())
@@ -112,13 +112,13 @@ impl PlyReader {
     }
 
     /// Reads the first word of a file.
-    fn take_word(&mut self, alloc: Global, mut words: SplitAsciiWhitespace) -> Result<(), Wrong> {
+    fn take_word(&mut self, mut words: SplitAsciiWhitespace) -> Result<(), Wrong> {
         match words.next() {
             Some("ply") => {
                 self.stage = Stage::Header;
                 Ok(())
             }
-            Some(other) => Err(Wrong::beginning(alloc, other, "not with ply")),
+            Some(other) => Err(Wrong::beginning(other, "not with ply")),
             None => Ok(()),
         }
     }
@@ -175,7 +175,7 @@ impl PlyReader {
         if !self.elements.iter().all(is_complete) {
             return Err(Wrong::PARTIAL_HEADER);
         }
-        if encoding != Encoding::Text && !self.elements.iter().all(is_typed) {
+        if !matches!(encoding, Encoding::Text) && !self.elements.iter().all(is_typed) {
             return Err(Wrong::NO_TYPE);
         }
         self.elements.reverse();
@@ -227,7 +227,7 @@ impl PlyReader {
         let Some(property) = element.properties.get(self.place).copied() else {
             return Err(Wrong::MORE_LINES);
         };
-        self.take_of(alloc, property, word)?;
+        self.take_of(property, word)?;
         if self.missing.is_none() {
             self.place = self.place.saturating_add(1);
         }
@@ -238,9 +238,9 @@ impl PlyReader {
     }
 
     /// Reads a number of a property.
-    fn take_of(&mut self, alloc: Global, property: Property, word: &str) -> Result<(), Wrong> {
+    fn take_of(&mut self, property: Property, word: &str) -> Result<(), Wrong> {
         if property.is_list {
-            return self.take_of_list(alloc, property.purpose, word);
+            return self.take_of_list(property.purpose, word);
         }
         let text = match property.purpose {
             Purpose::X => &mut self.x,
@@ -254,12 +254,12 @@ impl PlyReader {
     }
 
     /// Reads the length of a list, or one of its numbers.
-    fn take_of_list(&mut self, alloc: Global, purpose: Purpose, word: &str) -> Result<(), Wrong> {
+    fn take_of_list(&mut self, purpose: Purpose, word: &str) -> Result<(), Wrong> {
         let missing = match self.missing {
-            None => number(alloc, word)?,
+            None => number(word)?,
             Some(missing) => {
                 if purpose == Purpose::Corners {
-                    self.corners.push(number(alloc, word)?)?;
+                    self.corners.push(number(word)?)?;
                 }
                 missing.saturating_sub(1)
             }

@@ -2,7 +2,7 @@
 
 use crate::arguments::{Arguments, Source};
 use crate::claim::Claim;
-use crate::fault::{Fault, NO_NUMBER, Wrong, at_byte};
+use crate::fault::{Fault, NO_NUMBER, Wrong, at_byte, at_line};
 use crate::obj::ObjReader;
 use crate::off::{Layout, OffReader};
 use crate::ply::{PlyReader, header_of, is_binary};
@@ -124,10 +124,7 @@ fn read_binary_ply(
     let (header, elements) = header_of(bytes);
     read_header(rt, progress, header, reader, surface)?;
     surface.counted = Counted::Bytes;
-    at(
-        rt.alloc(),
-        reader.take_bytes(rt.alloc(), header.len(), elements, surface),
-    )
+    at(reader.take_bytes(rt.alloc(), header.len(), elements, surface))
 }
 
 /// Reads the lines of a header.
@@ -152,20 +149,20 @@ fn read_stl(
     let bytes = read_bytes(rt, arguments.file)?;
     if let Some(count) = count_of(&bytes) {
         surface.counted = Counted::Bytes;
-        return at(rt.alloc(), read_binary(rt.alloc(), &bytes, count, surface));
+        return at(read_binary(rt.alloc(), &bytes, count, surface));
     }
     if !is_text(&bytes) {
-        return at(rt.alloc(), Err(wrong_length(rt.alloc(), &bytes)));
+        return at(Err(wrong_length(&bytes)));
     }
     let mut reader = StlReader::new(rt.alloc());
     read_text_lines(rt, progress, bytes, &mut reader, surface)
 }
 
 /// Returns what is wrong at a byte, if anything is.
-fn at(alloc: Global, read: Result<(), (usize, Wrong)>) -> Result<(), Fault> {
+fn at(read: Result<(), (usize, Wrong)>) -> Result<(), Fault> {
     match read {
         Ok(()) => Ok(()),
-        Err((byte, wrong)) => Err(at_byte(alloc, byte, wrong)),
+        Err((byte, wrong)) => Err(at_byte(byte, wrong)),
     }
 }
 
@@ -188,19 +185,28 @@ fn read_off(
     text: &str,
     surface: &mut Surface,
 ) -> Result<(), Fault> {
-    let alloc = rt.alloc();
-    let mut reader = OffReader::new(alloc, Layout::Lines);
-    match read_lines(rt, progress, text, &mut reader, surface) {
+    match read_off_as(rt, progress, Layout::Lines, text, surface) {
         Ok(()) => Ok(()),
         Err(fault) => {
-            *surface = Surface::new(alloc);
-            reader = OffReader::new(alloc, Layout::Numbers);
-            match read_lines(rt, progress, text, &mut reader, surface) {
+            *surface = Surface::new(rt.alloc());
+            match read_off_as(rt, progress, Layout::Numbers, text, surface) {
                 Ok(()) => Ok(()),
                 Err(_) => Err(fault),
             }
         }
     }
+}
+
+/// Reads vertices and faces that lie so on lines.
+fn read_off_as(
+    rt: &(impl Eprint + AllocGlobal),
+    progress: Progress,
+    layout: Layout,
+    text: &str,
+    surface: &mut Surface,
+) -> Result<(), Fault> {
+    let mut reader = OffReader::new(rt.alloc(), layout);
+    read_lines(rt, progress, text, &mut reader, surface)
 }
 
 /// Reads all lines.
@@ -215,10 +221,7 @@ fn read_lines<T, R: LineReader<T>>(
     take_lines(rt, progress, text, all, reader, target)?;
     match reader.end(rt.alloc(), target) {
         Ok(()) => Ok(()),
-        Err(wrong) => Err(Fault::Line {
-            line: all.saturating_add(1),
-            wrong,
-        }),
+        Err(wrong) => Err(at_line(all.saturating_add(1), wrong)),
     }
 }
 
@@ -234,7 +237,7 @@ fn take_lines<T, R: LineReader<T>>(
     for (line, said) in numbered_lines(text) {
         progress.show(rt, line, all, "lines")?;
         if let Err(wrong) = reader.take(rt.alloc(), line, said, target) {
-            return Err(Fault::Line { line, wrong });
+            return Err(at_line(line, wrong));
         }
     }
     progress.clear(rt, all)?;
@@ -250,10 +253,10 @@ fn count_lines(text: &str) -> usize {
 }
 
 /// Returns the number that a word says, which has no sign.
-pub fn number(alloc: Global, word: &str) -> Result<u32, Wrong> {
+pub fn number(word: &str) -> Result<u32, Wrong> {
     match number_of(word) {
         Some(number) => Ok(number),
-        None => Err(Wrong::quoting(alloc, NO_NUMBER, word)),
+        None => Err(Wrong::quoting(NO_NUMBER, word)),
     }
 }
 

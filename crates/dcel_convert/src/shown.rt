@@ -1,6 +1,7 @@
 //! Words of a file as messages show them.
 
 use std::alloc::{AllocError, Global};
+use std::fmt::{self, Display, Formatter};
 
 /// How many characters of a word are shown.
 const MOST: usize = 40;
@@ -15,18 +16,31 @@ pub fn beginning(word: &str) -> &str {
     word
 }
 
-/// Returns the beginning of a word with nothing in it that a terminal would act on.
-pub fn shown(alloc: Global, word: &str) -> Result<String, AllocError> {
-    let mut text = String::new(alloc);
-    for character in beginning(word).chars() {
-        push_shown(&mut text, character)?;
-    }
-    Ok(text)
+/// The beginning of a word, which is shown with nothing in it that a terminal would act on.
+#[derive(Clone, Copy)]
+pub struct Excerpt {
+    characters: [char; MOST],
+    count: usize,
 }
 
-fn push_shown(text: &mut String, character: char) -> Result<(), AllocError> {
-    for shown in character.escape_debug() {
-        text.push(shown)?;
+impl Excerpt {
+    /// Returns the beginning of a word.
+    pub fn of(word: &str) -> Self {
+        let mut characters = [' '; MOST];
+        let mut count: usize = 0;
+        for (place, character) in characters.iter_mut().zip(word.chars()) {
+            *place = character;
+            count = count.saturating_add(1);
+        }
+        Excerpt { characters, count }
     }
-    Ok(())
+}
+
+impl Display for Excerpt {
+    fn fmt<W: fmt::Write>(&self, f: &mut Formatter<W>) -> fmt::Result {
+        for character in self.characters.iter().take(self.count) {
+            write!(f, "{}", character.escape_debug())?;
+        }
+        Ok(())
+    }
 }

@@ -34,9 +34,7 @@ pub fn add_triangle(
     let [a, b, c] = corners;
     if a == b || b == c || c == a {
         let place = surface.faces.len();
-        return Err(Wrong::text(format!(in alloc;
-            "triangle {place} is degenerate: two of its corners are equal"
-        )));
+        return Err(Wrong::Degenerate(place));
     }
     let face = vec![in alloc; a, b, c]?;
     surface.add_face(line, face)?;

@@ -1,7 +1,7 @@
 //! What a file says: vertices, faces, and what is left out.
 
 use crate::bytes::Number;
-use crate::fault::{Fault, NO_COORDINATE, Wrong, at_byte};
+use crate::fault::{Fault, NO_COORDINATE, Wrong, at_all, at_byte, at_line};
 use crate::left_out::LeftOut;
 use crate::shortest::place_of;
 use std::alloc::{AllocError, Global};
@@ -77,7 +77,7 @@ impl Surface {
         coordinates: [&str; 3],
     ) -> Result<(), Wrong> {
         let mut place = String::new(alloc);
-        add_coordinates(alloc, &mut place, coordinates)?;
+        add_coordinates(&mut place, coordinates)?;
         self.add_place(line, place)?;
         Ok(())
     }
@@ -94,21 +94,21 @@ impl Surface {
     }
 
     /// Returns what is wrong with a vertex, with its line or byte.
-    pub fn at_vertex(&self, alloc: Global, vertex: usize, wrong: Wrong) -> Fault {
-        self.at(alloc, self.vertex_lines.get(vertex).copied(), wrong)
+    pub fn at_vertex(&self, vertex: usize, wrong: Wrong) -> Fault {
+        self.at(self.vertex_lines.get(vertex).copied(), wrong)
     }
 
     /// Returns what is wrong with a face, with its line or byte.
-    pub fn at_face(&self, alloc: Global, face: usize, wrong: Wrong) -> Fault {
-        self.at(alloc, self.lines.get(face).copied(), wrong)
+    pub fn at_face(&self, face: usize, wrong: Wrong) -> Fault {
+        self.at(self.lines.get(face).copied(), wrong)
     }
 
     /// Returns what is wrong, with a line or byte if there is one.
-    fn at(&self, alloc: Global, line: Option<usize>, wrong: Wrong) -> Fault {
+    fn at(&self, line: Option<usize>, wrong: Wrong) -> Fault {
         match (line, self.counted) {
-            (Some(line), Counted::Lines) => Fault::Line { line, wrong },
-            (Some(byte), Counted::Bytes) => at_byte(alloc, byte, wrong),
-            (None, _) => Fault::Input(wrong),
+            (Some(line), Counted::Lines) => at_line(line, wrong),
+            (Some(byte), Counted::Bytes) => at_byte(byte, wrong),
+            (None, _) => at_all(wrong),
         }
     }
 
@@ -137,17 +137,17 @@ pub const BEHIND_CORNERS: &str = "what follows a face's corners";
 pub const OTHER_ELEMENT: &str = "an element that is no vertex and no face";
 
 /// Adds three coordinates to a place.
-fn add_coordinates(alloc: Global, place: &mut String, coordinates: [&str; 3]) -> Result<(), Wrong> {
+fn add_coordinates(place: &mut String, coordinates: [&str; 3]) -> Result<(), Wrong> {
     for word in coordinates {
-        add_coordinate(alloc, place, word)?;
+        add_coordinate(place, word)?;
     }
     Ok(())
 }
 
 /// Adds a coordinate to a place, if it is a number that is finite.
-pub fn add_coordinate(alloc: Global, place: &mut String, word: &str) -> Result<(), Wrong> {
+pub fn add_coordinate(place: &mut String, word: &str) -> Result<(), Wrong> {
     if !is_finite(word) {
-        return Err(Wrong::quoting(alloc, NO_COORDINATE, word));
+        return Err(Wrong::quoting(NO_COORDINATE, word));
     }
     if !place.is_empty() {
         place.push_str(" ")?;

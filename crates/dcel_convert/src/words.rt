@@ -39,7 +39,7 @@ impl LineReader<Claim> for WordsReader {
         let words = text.split_ascii_whitespace();
         match self.counts {
             None => {
-                self.counts = Some(counts_of(alloc, words)?);
+                self.counts = Some(counts_of(words)?);
                 Ok(())
             }
             Some(counts) => take_list(alloc, counts, words, claim),
@@ -74,7 +74,7 @@ fn take_list(
     } else if claim.turns.len() < counts.vertices as usize {
         take_turn(alloc, counts, first, words, &mut claim.turns)
     } else if first == "closed" && claim.closed.is_none() {
-        claim.closed = Some(place_of(alloc, counts, words)?);
+        claim.closed = Some(place_of(counts, words)?);
         Ok(())
     } else if first.is_empty() {
         Ok(())
@@ -93,9 +93,7 @@ fn take_word(
 ) -> Result<(), Wrong> {
     let face = all.len();
     if face_named(first) != Some(face) {
-        return Err(Wrong::text(format!(in alloc;
-            "the word of face {face} is missing, a line that begins with F{face}"
-        )));
+        return Err(Wrong::NoWord(face));
     }
     add_list(alloc, counts, words, all)
 }
@@ -110,9 +108,7 @@ fn take_turn(
 ) -> Result<(), Wrong> {
     let vertex = all.len();
     if first != "out" {
-        return Err(Wrong::text(format!(in alloc;
-            "the half edges out of vertex {vertex} are missing, a line that begins with out"
-        )));
+        return Err(Wrong::NoTurn(vertex));
     }
     add_list(alloc, counts, words, all)
 }
@@ -125,38 +121,37 @@ fn add_list(
     all: &mut Vec<Vec<u32>>,
 ) -> Result<(), Wrong> {
     let mut halves = Vec::new(alloc);
-    take_halves(alloc, counts, words, &mut halves)?;
+    take_halves(counts, words, &mut halves)?;
     all.push(halves)?;
     Ok(())
 }
 
 fn take_halves(
-    alloc: Global,
     counts: Counts,
     words: SplitAsciiWhitespace,
     halves: &mut Vec<u32>,
 ) -> Result<(), Wrong> {
     for word in words {
-        let half = half_of(alloc, counts, word)?;
+        let half = half_of(counts, word)?;
         halves.push(half)?;
     }
     Ok(())
 }
 
 /// Returns the half edge that a word says.
-fn half_of(alloc: Global, counts: Counts, word: &str) -> Result<u32, Wrong> {
-    let half = number(alloc, word)?;
+fn half_of(counts: Counts, word: &str) -> Result<u32, Wrong> {
+    let half = number(word)?;
     if half / 2 >= counts.edges {
-        return Err(Wrong::text(format!(in alloc; "there is no half edge {half}")));
+        return Err(Wrong::NoHalfEdge(half));
     }
     Ok(half)
 }
 
 /// Reads the line of counts.
-fn counts_of(alloc: Global, mut words: SplitAsciiWhitespace) -> Result<Counts, Wrong> {
-    let vertices = count_of(alloc, "vertices", &mut words)?;
-    let edges = count_of(alloc, "edges", &mut words)?;
-    let faces = count_of(alloc, "faces", &mut words)?;
+fn counts_of(mut words: SplitAsciiWhitespace) -> Result<Counts, Wrong> {
+    let vertices = count_of("vertices", &mut words)?;
+    let edges = count_of("edges", &mut words)?;
+    let faces = count_of("faces", &mut words)?;
     match words.next() {
         Some(_) => Err(Wrong::NO_COUNTS),
         None => Ok(Counts {
@@ -168,9 +163,9 @@ fn counts_of(alloc: Global, mut words: SplitAsciiWhitespace) -> Result<Counts, W
 }
 
 /// Reads the count that follows this word.
-fn count_of(alloc: Global, word: &str, words: &mut SplitAsciiWhitespace) -> Result<u32, Wrong> {
+fn count_of(word: &str, words: &mut SplitAsciiWhitespace) -> Result<u32, Wrong> {
     match (words.next(), words.next()) {
-        (Some(found), Some(count)) if found == word => number(alloc, count),
+        (Some(found), Some(count)) if found == word => number(count),
         _ => Err(Wrong::NO_COUNTS),
     }
 }
@@ -182,17 +177,13 @@ fn face_named(first: &str) -> Option<usize> {
 }
 
 /// Reads the place of the outer face among all faces, with which the line ends.
-fn place_of(
-    alloc: Global,
-    counts: Counts,
-    mut words: SplitAsciiWhitespace,
-) -> Result<usize, Wrong> {
+fn place_of(counts: Counts, mut words: SplitAsciiWhitespace) -> Result<usize, Wrong> {
     let Some(word) = words.next() else {
         return Err(Wrong::TOO_FEW);
     };
-    let place = number(alloc, word)?;
+    let place = number(word)?;
     if place >= counts.faces {
-        return Err(Wrong::quoting(alloc, NO_NUMBER, word));
+        return Err(Wrong::quoting(NO_NUMBER, word));
     }
     match words.next() {
         Some(_) => Err(Wrong::MORE_LINES),

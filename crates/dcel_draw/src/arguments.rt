@@ -42,6 +42,7 @@ pub const PROGRAM: Program<'static, ()> = Program {
     ],
     choices: &[],
     details: DETAILS,
+    output: None,
 };
 
 const DETAILS: &str = "\

@@ -18,23 +18,29 @@ use crate::fault::{Fault, Wrong};
 use crate::page::Page;
 use crate::placing::read_places;
 use crate::talk::talk_of;
-use dcel_programs::{Text, before_comment, numbered_lines, read_text, run, write_out};
+use dcel_programs::{Text, before_comment, numbered_lines, read_text, report_wait, run, write_out};
 use dcel_replay::Replay;
 use dcel_svg::{Picture, Places, Style, bow, spread, write_svg};
 use std::alloc::Global;
-use std::io::{self, Write};
+use std::io::{self, IsTerminal, Write};
 use std::process::ExitCode;
 use std::rt::Files;
 
 fn main(rt: HostRuntime) -> ExitCode {
-    run(&rt, &PROGRAM, |given| draw(&rt, &Arguments::of(given)))
+    let is_typed = rt.stdin().is_terminal();
+    run(&rt, &PROGRAM, |given| {
+        draw(&rt, is_typed, &Arguments::of(given))
+    })
 }
 
-/// Reads the lines, and draws the mesh that they leave, or the mesh after each.
+/// Reads the lines, and draws the mesh that they leave, or the mesh after each. Standard input may
+/// be typed at a terminal.
 fn draw(
-    rt: &(impl Files + Input + Print + AllocGlobal),
+    rt: &(impl Files + Input + Print + Eprint + AllocGlobal),
+    is_typed: bool,
     arguments: &Arguments,
 ) -> Result<(), Fault> {
+    report_wait(rt, PROGRAM.name, is_typed && arguments.file.is_none())?;
     let text = read_text(rt, arguments.file)?;
     let style = Style::HalfEdges {
         anchors: arguments.anchors,

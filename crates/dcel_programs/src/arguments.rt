@@ -7,7 +7,8 @@ use clap::builder::ValueParser;
 use clap::{Arg, ArgAction, ArgMatches, Command};
 use std::alloc::{AllocError, Global};
 
-/// What a program takes. Besides its options that is a file, in place of standard input.
+/// What a program takes. Besides its options that is a file, in place of standard input, and behind
+/// it maybe another one to write.
 #[derive(Clone, Copy)]
 pub struct Program<'a, T> {
     /// Its name.
@@ -22,6 +23,17 @@ pub struct Program<'a, T> {
     pub choices: &'a [Choice<'a, T>],
     /// What stands below the options in its help.
     pub details: &'a str,
+    /// The file to write, if the program takes one behind the first.
+    pub output: Option<Target<'a>>,
+}
+
+/// The file to write, which follows the one to read without an option.
+#[derive(Clone, Copy)]
+pub struct Target<'a> {
+    /// What it is for.
+    pub help: &'a str,
+    /// The names of the options that it can't stand beside.
+    pub excludes: &'a [&'a str],
 }
 
 /// An option.
@@ -72,6 +84,9 @@ const CHOICES: &str = "choices";
 /// The argument that is no option.
 const FILE: &str = "file";
 
+/// The second argument that is no option.
+const OUT: &str = "out";
+
 impl<'a, T> Program<'a, T> {
     /// Describes the arguments that the program takes.
     pub(crate) fn command(&self, alloc: Global) -> Result<Command<'a>, AllocError> {
@@ -81,6 +96,9 @@ impl<'a, T> Program<'a, T> {
             .version(VERSION)
             .after_help(self.details)
             .arg(file)?;
+        if let Some(target) = self.output {
+            command = command.arg(target.arg(alloc)?)?;
+        }
         for switch in self.switches {
             command = command.arg(switch.arg(alloc))?;
         }
@@ -88,6 +106,15 @@ impl<'a, T> Program<'a, T> {
             command = command.arg(choice.arg(alloc)?)?;
         }
         Ok(command)
+    }
+}
+
+impl<'a> Target<'a> {
+    fn arg(&self, alloc: Global) -> Result<Arg<'a>, AllocError> {
+        Arg::new(alloc, OUT)
+            .value_name("OUT")
+            .help(self.help)
+            .conflicts_with_all(self.excludes)
     }
 }
 
@@ -144,6 +171,17 @@ impl<'a> Given<'a> {
             ⊎ (value_of self.now (codes "file") ≡ Some (codes "-"))) }
     {
         self.file(FILE)
+    }
+
+    /// Returns the file to write that follows the one to read. There is none if it is - or isn't
+    /// there.
+    pub fn output(&self) -> Option<&'a str>
+        ensures some { IfSome result (λ file. (value_of self.now (codes "out") ≡ Some file.now)
+            × (file.now ≢ codes "-")) }
+        ensures none { IfNone result ((value_of self.now (codes "out") ≡ None)
+            ⊎ (value_of self.now (codes "out") ≡ Some (codes "-"))) }
+    {
+        self.file(OUT)
     }
 
     /// Returns the file that follows an option. There is none if it is - or the option isn't there.

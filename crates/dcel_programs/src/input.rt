@@ -1,6 +1,6 @@
 //! Texts that are read, line by line.
 
-ghost use Rattle.std.specs.Prelude.{◌≡◌, ◌==◌, IfOk};
+ghost use Rattle.std.specs.Prelude.{◌≡◌, ◌==◌, IfOk, IsOk, false};
 ghost use Rattle.std.specs.List.{before_first};
 ghost use Rattle.std.specs.Str.{IsUtf8};
 ghost use Rattle.std.specs.Str.Lossy.{utf8_lossy};
@@ -29,6 +29,16 @@ pub fn read_text<W: Display + Debug + Drop>(
             Err(Fault::of_file(rt.alloc(), path, error))
         }
     }
+}
+
+/// Says on standard error that somebody is to type standard input, where that is so.
+pub fn report_wait(rt: &impl Eprint, name: &str, is_typed: bool) -> io::Result<()>
+    ensures { is_typed ≡ false → IsOk result }
+{
+    if is_typed {
+        eprintln!(rt; "{name}: reading standard input; Ctrl-D ends it")?;
+    }
+    Ok(())
 }
 
 /// Reads all bytes.

@@ -9,9 +9,9 @@ mod output;
 mod progress;
 mod running;
 
-pub use arguments::{Choice, Given, Program, Switch, Takes};
+pub use arguments::{Choice, Given, Program, Switch, Takes, Target};
 pub use fault::Fault;
-pub use input::{NumberedLines, before_comment, numbered_lines, read_text};
+pub use input::{NumberedLines, before_comment, numbered_lines, read_text, report_wait};
 pub use output::{Text, write_out};
 pub use progress::Progress;
 pub use running::run;

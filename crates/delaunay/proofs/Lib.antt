@@ -1,3 +1,4 @@
+pub mod Ended
 pub mod Fitting
 pub mod Marked
 pub mod Pushed

@@ -1,5 +1,5 @@
 -- What the program is asked for, and what it writes then.
-use Rattle.std.specs.Prelude.{◌≡◌, ◌≢◌, ◌⊎◌, ◌++◌, ℕ, List, [], Option, None, Some}
+use Rattle.std.specs.Prelude.{◌≡◌, ◌≢◌, ◌⊎◌, ◌++◌, ℕ, List, [], Option, None, Some, map}
 use Rattle.std.specs.Io.KnownBytes.{Appends}
 use Rattle.dcel_predicates.specs.declared.point.Point.{Point}
 use Rattle.dcel_maps.specs.Shapes.{Mesh}
@@ -15,11 +15,13 @@ use Rattle.dcel_output.specs.Lines.{lines_of, nearest_line, triangle_line}
 use Rattle.dcel_output.specs.Numbering.{IsNearestPoint, NumbersVertices}
 use Rattle.dcel_output.specs.Outlining.{ListsInside}
 use Rattle.dcel_output.specs.Whole.{IsDelaunayMesh}
+use Rattle.delaunay.specs.Segments.{segment_of, segments_of}
 use Rattle.delaunay.specs.Texts.{AreBeside, IsListed, text_of}
 use Rattle.delaunay.specs.declared.arguments.Arguments.{Arguments}
 use Rattle.delaunay.specs.declared.arguments.Output.{Output}
 use Rattle.delaunay.specs.declared.arguments.Output.TheVariants.{Triangles}
 use Rattle.delaunay.specs.declared.drawn.Drawn.{Drawn}
+use Rattle.delaunay.specs.declared.task.Task.{Task}
 use Rattle.delaunay.specs.declared.view.Inside.{Inside}
 
 -- all points stay, and no edge has to
@@ -113,6 +115,17 @@ Writes Tells a points places old new = (nearest : List (Option ℕ)) × AreNeare
 -- for each place the line of a point that is nearest to it
 abbrev pub WritesNearest : List Point → List Point → Option (List ℕ) → Option (List ℕ) → Type 0
 WritesNearest points places old new = (nearest : List (Option ℕ)) × AnswersEach (IsNearestPoint points) places nearest × Appends old new (lines_of nearest_line nearest)
+
+-- what is asked for of a task, behind what was written: triangles alone, nearest points alone, or an output of a plain
+-- triangulation, of a constrained one, or of what is inside an outline
+pub record AnswersTask (a : Arguments) (t : Task) (old new : Option (List ℕ)) : Type 0 where
+  pub triangles : AsksForTriangles a → WritesTriangles t.points.items old new
+  pub nearest : AsksForNearest a → WritesNearest t.points.items t.places.items old new
+  pub plain : (output : Output) → AsksForPlain a output → Writes (TellsDelaunay t.points.items output) a t.points.items t.places.items old new
+  pub constrained : (output : Output) → AsksForConstrained a output
+      → Writes (TellsConstrained t.points.items (segments_of t.constraints.items t.outline.items) output) a t.points.items t.places.items old new
+  pub inside : (output : Output) → AsksForInside a output
+      → Writes (TellsInside t.points.items (segments_of t.constraints.items t.outline.items) (map segment_of t.outline.items) output) a t.points.items t.places.items old new
 
 -- the vertex of each point
 abbrev pub HasVertices : List Point → Drawn → Type 0

@@ -34,8 +34,8 @@ use std::time::Instant;
 /// of the points, a line for each; if nearest points are, a line for each place. Of edges, the hull
 /// and neighbors those of such a triangulation are written. With constraints it is a constrained one,
 /// whose marked edges are those of the segments, and with an outline what is inside is written. Below
-/// an output are the lines of nearest points, if these are asked for too. If a write fails, some of
-/// the text may be written.
+/// an output are the lines of nearest points, if these are asked for too. If a write fails,
+/// nothing is promised of what was written.
 pub fn answer<W: Write>(
     rt: &(impl Files + Clock + Print + Eprint + AllocGlobal),
     writer: &mut W,

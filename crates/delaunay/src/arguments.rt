@@ -2,7 +2,7 @@
 
 ghost use Rattle.std.specs.Prelude.{◌≡◌, None, false};
 
-use crate::fault::Wrong;
+use crate::fault::{Fault, Wrong};
 use crate::format::{FORMATS, Format};
 use crate::geojson::Which;
 use crate::joins::Form;
@@ -35,6 +35,16 @@ pub enum Output {
     Words,
     /// The corners and edges of the Voronoi diagram.
     Voronoi,
+}
+
+impl Output {
+    /// Returns whether it has a line for each triangle.
+    fn lists_triangles(self) -> bool {
+        matches!(
+            self,
+            Output::Triangles | Output::Neighbors | Output::Off | Output::Obj
+        )
+    }
 }
 
 /// What the program is asked to do.
@@ -83,7 +93,7 @@ pub struct Arguments<'a> {
 /// What the program takes.
 pub const PROGRAM: Program<'static, Output> = Program {
     name: "delaunay",
-    about: "Writes the Delaunay triangulation of points",
+    about: ABOUT,
     input: "The points; without it, or with -, standard input",
     switches: &[
         Switch {
@@ -227,6 +237,7 @@ pub const PROGRAM: Program<'static, Output> = Program {
     ],
     choices: OUTPUTS,
     details: DETAILS,
+    output: None,
 };
 
 /// How many outputs are written into files.
@@ -314,6 +325,14 @@ const OUTPUTS: &[Choice<'static, Output>] = &[
     },
 ];
 
+const ABOUT: &str = "\
+Writes the Delaunay triangulation of points
+
+Examples:
+  delaunay points.txt > triangles.txt
+  delaunay --columns lon,lat --grid --svg towns.svg towns.csv
+  delaunay --outline lake.txt --refine 25 --off points.txt > lake.off";
+
 const DETAILS: &str = "\
 Each line of the input has the two coordinates of a point, decimals with blanks, a comma or a
 semicolon between them, in quotes or not. What follows a # is a comment, and lines without a word
@@ -382,9 +401,9 @@ none goes to standard output but that of --nearest. No file is written before al
 Points are removed first, then constraints are put in, then outlines, and then points are added. A
 picture has the edges that stay wide, in place of the hull.
 
-Coordinates are multiplied by the least power of ten that makes all of them whole, which is told on
-standard error unless it is 1, and have to be from -9007199254740992 to 9007199254740992 then. What
-is written has the coordinates that were given.
+Coordinates are multiplied by the least power of ten that makes all of them whole, and have to be
+from -9007199254740992 to 9007199254740992 then. Unless it is 1, --stats and --time say on standard
+error which power that is. What is written has the coordinates that were given.
 
 With --grid any decimals of up to 25 digits between -2^63 and 2^63 are taken, as doubles are
 written: each coordinate is rounded to the nearest multiple of the finest power of two for which all
@@ -438,8 +457,16 @@ impl<'a> Arguments<'a> {
         }
     }
 
+    /// Returns the fault that something is wrong with them, if it is.
+    pub fn checked(&self) -> Result<(), Fault> {
+        match self.check() {
+            Ok(()) => Ok(()),
+            Err(wrong) => Err(Fault::Input(wrong)),
+        }
+    }
+
     /// Returns what is wrong with them, if something is.
-    pub fn check(&self) -> Result<(), Wrong> {
+    fn check(&self) -> Result<(), Wrong> {
         if let Some(word) = self.no_scale {
             return Err(Wrong::quoting(Sentence::NoScale, word));
         }
@@ -548,6 +575,24 @@ impl<'a> Arguments<'a> {
     /// Returns the file with points that are looked for, if there is one.
     pub fn places(&self) -> Option<&'a str> {
         self.nearest.or(self.locate)
+    }
+
+    /// Returns whether a list of triangles is asked for.
+    pub fn asks_for_triangles(&self) -> bool {
+        for (path, row) in self.files.iter().zip(FILES.iter()) {
+            if path.is_some() && row.1.lists_triangles() {
+                return true;
+            }
+        }
+        match self.output {
+            Some(output) => output.lists_triangles(),
+            None => false,
+        }
+    }
+
+    /// Returns whether standard error is to say by what coordinates are multiplied.
+    pub fn reports_scale(&self) -> bool {
+        self.is_timed || matches!(self.output, Some(Output::Stats))
     }
 
     /// Returns the format of a file: that of the points, if it is the same file, or by its name.

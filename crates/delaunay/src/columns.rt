@@ -1,11 +1,11 @@
 //! Which columns of lines are the coordinates of points.
 
-use crate::fault::{Fault, Wrong};
+use crate::fault::{Fault, Wrong, coordinate_of};
 use crate::fields::{field, place_of, separator_of, uncommented};
 use crate::foreign::{why_no_numbers, why_refused};
 use crate::quoting::Sentence;
 use crate::reading::two_words;
-use dcel_decimals::{Decimal, DecimalError};
+use dcel_decimals::Decimal;
 use dcel_programs::numbered_lines;
 
 /// Which columns of lines are the coordinates of points.
@@ -205,7 +205,7 @@ fn is_of(word: &str, kind: Kind) -> bool {
 /// Returns the coordinates that a line of two words says.
 fn two_numbers(line: &str) -> Result<[Decimal; 2], Wrong> {
     let (x, y) = two_words(line)?;
-    Ok([Decimal::read(x)?, Decimal::read(y)?])
+    Ok([coordinate_of(x)?, coordinate_of(y)?])
 }
 
 /// Returns the coordinates that a line has in two places.
@@ -219,12 +219,8 @@ fn numbers_at(line: &str, x: usize, y: usize) -> Result<[Decimal; 2], Wrong> {
 
 /// Returns the coordinate that a line has in a place.
 fn number_at(line: &str, separator: char, place: usize) -> Result<Decimal, Wrong> {
-    let Some(word) = field(line, separator, place) else {
-        return Err(Wrong::quoting(Sentence::FewColumns, line));
-    };
-    match Decimal::read(word) {
-        Ok(number) => Ok(number),
-        Err(DecimalError::NotDecimal) => Err(Wrong::quoting(Sentence::NoNumber, word)),
-        Err(error) => Err(error.into()),
+    match field(line, separator, place) {
+        Some(word) => coordinate_of(word),
+        None => Err(Wrong::quoting(Sentence::FewColumns, line)),
     }
 }

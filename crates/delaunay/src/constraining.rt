@@ -14,6 +14,7 @@ use crate::arguments::Arguments;
 use crate::drawn::{Drawn, Names};
 use crate::fault::{Fault, Wrong};
 use crate::outlining::inside;
+use crate::quoting::Sentence;
 use crate::reading::in_file;
 use crate::segments::segments_of;
 use crate::task::Task;
@@ -110,10 +111,28 @@ pub fn triangulation_of(
 fn fault_of(alloc: Global, arguments: &Arguments, task: &Task, error: SegmentError) -> Fault {
     match error {
         SegmentError::NoVertex(number) => {
-            at_line(alloc, arguments, task, number, Wrong::RemovedPoint)
+            at_line(
+                alloc,
+                arguments,
+                task,
+                number,
+                Wrong::Said(Sentence::RemovedPoint),
+            )
         }
-        SegmentError::OneVertex(number) => at_line(alloc, arguments, task, number, Wrong::OnePoint),
-        SegmentError::Crosses(number) => at_line(alloc, arguments, task, number, Wrong::Crossing),
+        SegmentError::OneVertex(number) => at_line(
+            alloc,
+            arguments,
+            task,
+            number,
+            Wrong::Said(Sentence::OnePoint),
+        ),
+        SegmentError::Crosses(number) => at_line(
+            alloc,
+            arguments,
+            task,
+            number,
+            Wrong::Said(Sentence::Crossing),
+        ),
         SegmentError::OutOfMemory => Fault::OutOfMemory(AllocError),
     }
 }

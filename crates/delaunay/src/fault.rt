@@ -1,5 +1,6 @@
 //! Why the program gives up.
 
+use crate::counts::Added;
 use crate::fraction::Fraction;
 use crate::quoting::{Excerpt, Sentence};
 use crate::unit::Shown;
@@ -15,24 +16,9 @@ pub type Fault = dcel_programs::Fault<Wrong>;
 /// What is wrong with the input.
 #[derive(Clone, Copy, Drop, Error)]
 pub enum Wrong {
-    /// A line has one word.
-    #[error("a point has two coordinates, here is one")]
-    OneWord,
-    /// It has more than two.
-    #[error("a point has two coordinates, here are more; --columns takes two of them")]
-    MoreWords,
-    /// A word is no decimal.
-    #[error("a coordinate is no number")]
-    NoNumber,
-    /// A number has too many digits.
-    #[error("a coordinate has too many digits")]
-    TooManyDigits,
-    /// It has more digits behind its point than a scale makes whole.
-    #[error("a coordinate has more than 18 digits behind its point; --grid takes it, rounded")]
-    TooManyPlaces,
-    /// It is beyond all grids.
-    #[error("a coordinate is -2^63 or below, or 2^63 or above")]
-    TooLarge,
+    /// What a sentence says.
+    #[error("{0}")]
+    Said(Sentence),
     /// A number times this scale isn't whole.
     #[error("a coordinate times {0} is not whole")]
     NotWhole(u64),
@@ -45,51 +31,19 @@ pub enum Wrong {
     /// A text is refused that is to be GeoJSON.
     #[error("{0}: '{1}'")]
     Geojson(Reason, Excerpt),
-    /// Both a scale and a grid are asked for.
-    #[error("--grid makes a scale needless: leave out --scale")]
-    ScaledGrid,
-    /// A line has no number of a point.
-    #[error("there is no point of this number")]
-    NoPoint,
-    /// It has a number that no point has.
+    /// A line has a number that no point has.
     #[error("there is no point {0} in the points' file, which has {1}, numbered from {2}")]
     FarNumber(usize, usize, usize),
-    /// A line of constraints hasn't two numbers.
-    #[error("a constraint has the numbers of two points")]
-    NoPair,
-    /// A line of an outline has something else than numbers.
-    #[error("an outline has the numbers of points")]
-    NoCorner,
-    /// It has too few.
-    #[error("an outline has at least three points")]
-    FewCorners,
-    /// The two points that are to be joined are one, or stand at one place.
-    #[error("a point is joined to itself")]
-    OnePoint,
-    /// One of them is removed, and so are all that equal it.
-    #[error("a point is joined that is removed")]
-    RemovedPoint,
-    /// The segment between them crosses one that has to stay.
-    #[error("it crosses another constraint")]
-    Crossing,
-    /// The place where it crosses one isn't on the grid: that place, and the nearest one that is.
+    /// The place where a segment crosses another isn't on the grid: that place, and the nearest one
+    /// that is.
     #[error("it crosses another constraint at {0} {1}, which is off the grid, whose nearest point is {2}")]
     OffGrid(Fraction, Fraction, Shown),
-    /// A side of an outline is no chain of edges.
-    #[error("a side of an outline is no chain of edges")]
-    NoChain,
-    /// At a vertex of the triangulation stands no point.
-    #[error("a vertex has no point")]
-    NoPointThere,
     /// A point could not be inserted.
     #[error(transparent)]
     Insertion(InsertionError),
     /// A refinement ended before all triangles were as asked.
-    #[error("not all triangles are as asked: {0} points were added")]
-    NotRefined(usize),
-    /// A point could not be removed.
-    #[error("a point can't be removed")]
-    NotRemoved,
+    #[error("not all triangles are as asked: {0}")]
+    NotRefined(Added),
 }
 
 impl Debug for Wrong {
@@ -109,6 +63,17 @@ impl Wrong {
         Wrong::Geojson(reason, Excerpt::of(text.trim_ascii()))
     }
 
+    /// Returns why a word is no coordinate.
+    fn of_word(word: &str, error: DecimalError) -> Self {
+        match error {
+            DecimalError::NotDecimal => Wrong::quoting(Sentence::NoNumber, word),
+            DecimalError::OutOfRange => Wrong::Said(Sentence::TooLarge),
+            DecimalError::TooManyDigits | DecimalError::FarExponent => Wrong::Said(
+                Sentence::TooManyDigits,
+            ),
+        }
+    }
+
     /// Returns that a number is out of the range of points, where it is multiplied by this scale.
     pub fn out_of_range(scale: Scale) -> Self {
         Wrong::OutOfRange(Decimal::from_scaled(Point::LIMIT as i64, scale))
@@ -122,17 +87,15 @@ impl From<RemovalError> for Wrong {
             RemovalError::OutOfMemory | RemovalError::Unfinished(_) => {
                 Wrong::Insertion(InsertionError::OutOfMemory)
             }
-            _ => Wrong::NotRemoved,
+            _ => Wrong::Said(Sentence::NotRemoved),
         }
     }
 }
 
-impl From<DecimalError> for Wrong {
-    fn from(error: DecimalError) -> Self {
-        match error {
-            DecimalError::NotDecimal => Wrong::NoNumber,
-            DecimalError::OutOfRange => Wrong::TooLarge,
-            DecimalError::TooManyDigits | DecimalError::FarExponent => Wrong::TooManyDigits,
-        }
+/// Returns the coordinate that a word says.
+pub fn coordinate_of(word: &str) -> Result<Decimal, Wrong> {
+    match Decimal::read(word) {
+        Ok(number) => Ok(number),
+        Err(error) => Err(Wrong::of_word(word, error)),
     }
 }

@@ -3,6 +3,7 @@
 use crate::fault::{Fault, Wrong};
 use crate::format::Format;
 use crate::numbering::Numbering;
+use crate::quoting::Sentence;
 use crate::reading::{in_file, two_words};
 use crate::removal::number_of;
 use crate::triangle::read_segments;
@@ -76,10 +77,16 @@ fn joins_of(alloc: Global, text: &str, form: Form, count: usize) -> Result<Vec<J
 fn pair(words: &str, line: usize, count: usize) -> Result<Join, Fault> {
     let (from, to) = two_words(words).map_err(|_wrong| Fault::Line {
         line,
-        wrong: Wrong::NoPair,
+        wrong: Wrong::Said(Sentence::NoPair),
     })?;
-    let from = point(from, Wrong::NoPair, count).map_err(|wrong| Fault::Line { line, wrong })?;
-    let to = point(to, Wrong::NoPair, count).map_err(|wrong| Fault::Line { line, wrong })?;
+    let from = point(from, Wrong::Said(Sentence::NoPair), count).map_err(|wrong| Fault::Line {
+        line,
+        wrong,
+    })?;
+    let to = point(to, Wrong::Said(Sentence::NoPair), count).map_err(|wrong| Fault::Line {
+        line,
+        wrong,
+    })?;
     join_of(from, to, line)
 }
 
@@ -88,7 +95,7 @@ fn join_of(from: usize, to: usize, line: usize) -> Result<Join, Fault> {
     if from == to {
         return Err(Fault::Line {
             line,
-            wrong: Wrong::OnePoint,
+            wrong: Wrong::Said(Sentence::OnePoint),
         });
     }
     Ok(Join { from, to, line })
@@ -108,7 +115,7 @@ fn corners(alloc: Global, words: &str, line: usize, count: usize) -> Result<Vec<
     if corners.len() < 3 {
         return Err(Fault::Line {
             line,
-            wrong: Wrong::FewCorners,
+            wrong: Wrong::Said(Sentence::FewCorners),
         });
     }
     Ok(corners)
@@ -123,16 +130,15 @@ fn add_corners(
 ) -> Result<(), Fault> {
     let before = corners.len();
     for word in part.split_ascii_whitespace() {
-        let corner = point(word, Wrong::NoCorner, count).map_err(|wrong| Fault::Line {
-            line,
-            wrong,
-        })?;
+        let corner = point(word, Wrong::Said(Sentence::NoCorner), count).map_err(
+            |wrong| Fault::Line { line, wrong },
+        )?;
         corners.push(corner)?;
     }
     if corners.len() == before {
         return Err(Fault::Line {
             line,
-            wrong: Wrong::NoCorner,
+            wrong: Wrong::Said(Sentence::NoCorner),
         });
     }
     Ok(())

@@ -9,9 +9,12 @@ mod answering;
 mod arguments;
 mod columns;
 mod constraining;
+mod counts;
 mod drawn;
+mod ending;
 mod fault;
 mod fields;
+mod flat;
 mod foreign;
 mod format;
 mod fraction;
@@ -44,65 +47,55 @@ mod voronoi;
 mod words;
 mod writing;
 
-use crate::answering::answer;
 use crate::arguments::{Arguments, PROGRAM};
+use crate::ending::write_answer;
 use crate::fault::Fault;
-use crate::limits::Limits;
-use crate::locating::locate;
-use crate::refining::answer_refined;
+use crate::flat::report_flat;
 use crate::task::Task;
 use dcel_programs::{Progress, run};
-use std::io::{self, BufWriter, Write};
+use std::io::{self, IsTerminal};
 use std::process::ExitCode;
 use std::rt::{Clock, Files};
 
 fn main(rt: HostRuntime) -> ExitCode {
     let progress = Progress::at(&rt.stderr());
+    let is_typed = rt.stdin().is_terminal();
     run(&rt, &PROGRAM, |given| {
-        draw(&rt, progress, &Arguments::of(given))
+        draw(&rt, progress, is_typed, &Arguments::of(given))
     })
 }
 
-/// Reads the points, triangulates them, and writes what is asked for.
+/// Reads the points, triangulates them, and writes what is asked for. Standard input may be typed at
+/// a terminal.
 fn draw(
     rt: &(impl Files + Clock + Input + Print + Eprint + AllocGlobal),
     progress: Progress,
+    is_typed: bool,
     arguments: &Arguments,
 ) -> Result<(), Fault> {
+    arguments.checked()?;
+    report_wait(rt, is_typed, arguments)?;
     let task = Task::read(rt, arguments)?;
-    let arguments = arguments.with_own_joins(&task);
-    if let Err(wrong) = arguments.check() {
-        return Err(Fault::Input(wrong));
-    }
-    match BufWriter::new(rt.alloc(), io::writer(rt)) {
-        Ok(mut writer) => write_answer(rt, &mut writer, progress, &arguments, &task),
-        Err(error) => Err(Fault::Output(error)),
-    }
+    draw_task(rt, progress, &arguments.with_own_joins(&task), &task)
 }
 
-/// Writes what is asked for, to its end.
-fn write_answer(
+/// Says on standard error that somebody is to type points, where that is so.
+fn report_wait(rt: &impl Eprint, is_typed: bool, arguments: &Arguments) -> io::Result<()> {
+    if is_typed && arguments.file.is_none() {
+        eprintln!(rt; "delaunay: reading points from standard input; Ctrl-D ends them")?;
+    }
+    Ok(())
+}
+
+/// Triangulates the points that were read, and writes what is asked for.
+fn draw_task(
     rt: &(impl Files + Clock + Print + Eprint + AllocGlobal),
-    writer: &mut impl Write,
     progress: Progress,
     arguments: &Arguments,
     task: &Task,
 ) -> Result<(), Fault> {
-    let limits = match Limits::of(arguments) {
-        Ok(limits) => limits,
-        Err(wrong) => return Err(Fault::Input(wrong)),
-    };
-    let answered = if arguments.adds_points() {
-        answer_refined(rt, writer, progress, arguments, task, limits)
-    } else if arguments.locate.is_some() {
-        locate(rt, writer, progress, arguments, task)
-    } else {
-        answer(rt, writer, progress, arguments, task)
-    };
-    // A refinement that ends too early has written what there is.
-    match (answered, writer.flush()) {
-        (Err(fault), _) => Err(fault),
-        (Ok(()), Ok(())) => Ok(()),
-        (Ok(()), Err(error)) => Err(Fault::Output(error)),
-    }
+    arguments.checked()?;
+    write_answer(rt, io::writer(rt), progress, arguments, task)?;
+    report_flat(rt, arguments, task)?;
+    Ok(())
 }

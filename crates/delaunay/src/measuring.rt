@@ -1,5 +1,6 @@
 //! Angles and areas of triangles, in floating point.
 
+use crate::counts::Count;
 use crate::unit::Unit;
 use crate::view::View;
 use dcel_delaunay::Point;
@@ -90,7 +91,12 @@ impl Measures {
         for (place, count) in self.classes.iter().enumerate() {
             let from = place.saturating_mul(WIDTH);
             let to = from.saturating_add(WIDTH);
-            writeln!(writer, "{count} angles from {from} to {to} degrees")?;
+            let angles = Count {
+                count: *count,
+                one: "angle",
+                many: "angles",
+            };
+            writeln!(writer, "{angles} from {from} to {to} degrees")?;
         }
         Ok(())
     }

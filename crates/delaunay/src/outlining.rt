@@ -8,6 +8,7 @@ ghost use Rattle.delaunay.specs.Texts.{AreBeside};
 
 use crate::fault::{Fault, Wrong};
 use crate::joins::Join;
+use crate::quoting::Sentence;
 use crate::segments::segments_of;
 use crate::view::Inside;
 use dcel_constrained::{ConstrainedMesh, Segment};
@@ -56,9 +57,9 @@ fn fault_of(error: OutlineError, sides: &[Join]) -> Fault {
         OutlineError::NoChain(number) => match sides.get(number) {
             Some(side) => Fault::Line {
                 line: side.line,
-                wrong: Wrong::NoChain,
+                wrong: Wrong::Said(Sentence::NoChain),
             },
-            None => Fault::Input(Wrong::NoChain),
+            None => Fault::Input(Wrong::Said(Sentence::NoChain)),
         },
         OutlineError::OutOfMemory => Fault::OutOfMemory(AllocError),
     }

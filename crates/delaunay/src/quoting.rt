@@ -2,9 +2,41 @@
 
 use std::fmt;
 
-/// What is wrong with a text.
+/// What is wrong.
 #[derive(Clone, Copy)]
 pub enum Sentence {
+    /// A line has one word.
+    OneWord,
+    /// A line has more words than two.
+    MoreWords,
+    /// A number has too many digits.
+    TooManyDigits,
+    /// A number has more digits behind its point than a scale makes whole.
+    TooManyPlaces,
+    /// A number is beyond all grids.
+    TooLarge,
+    /// Both a scale and a grid are asked for.
+    ScaledGrid,
+    /// A line has no number of a point.
+    NoPoint,
+    /// A line of constraints hasn't two numbers.
+    NoPair,
+    /// A line of an outline has something else than numbers.
+    NoCorner,
+    /// An outline has too few points.
+    FewCorners,
+    /// Two points that are to be joined are one, or stand at one place.
+    OnePoint,
+    /// A point that is to be joined is removed, and so are all that equal it.
+    RemovedPoint,
+    /// A segment crosses one that has to stay.
+    Crossing,
+    /// A side of an outline is no chain of edges.
+    NoChain,
+    /// At a vertex of the triangulation stands no point.
+    NoPointThere,
+    /// A point could not be removed.
+    NotRemoved,
     /// It is no number.
     NoNumber,
     /// It has brackets.
@@ -69,56 +101,152 @@ pub enum Sentence {
     AddsAlone,
 }
 
+/// What each of them says.
+const TEXTS: &[(Sentence, &str)] = &[
+    (
+        Sentence::OneWord,
+        "a point has two coordinates, here is one",
+    ),
+    (
+        Sentence::MoreWords,
+        "a point has two coordinates, here are more; --columns takes two of them",
+    ),
+    (Sentence::TooManyDigits, "a coordinate has too many digits"),
+    (
+        Sentence::TooManyPlaces,
+        "a coordinate has more than 18 digits behind its point; --grid takes it, rounded",
+    ),
+    (
+        Sentence::TooLarge,
+        "a coordinate is -2^63 or below, or 2^63 or above",
+    ),
+    (
+        Sentence::ScaledGrid,
+        "--grid makes a scale needless: leave out --scale",
+    ),
+    (Sentence::NoPoint, "there is no point of this number"),
+    (
+        Sentence::NoPair,
+        "a constraint has the numbers of two points",
+    ),
+    (Sentence::NoCorner, "an outline has the numbers of points"),
+    (Sentence::FewCorners, "an outline has at least three points"),
+    (Sentence::OnePoint, "a point is joined to itself"),
+    (Sentence::RemovedPoint, "a point is joined that is removed"),
+    (Sentence::Crossing, "it crosses another constraint"),
+    (
+        Sentence::NoChain,
+        "a side of an outline is no chain of edges",
+    ),
+    (Sentence::NoPointThere, "a vertex has no point"),
+    (Sentence::NotRemoved, "a point can't be removed"),
+    (Sentence::NoNumber, "a coordinate is no number"),
+    (
+        Sentence::Brackets,
+        "a point has two numbers without brackets",
+    ),
+    (
+        Sentence::Json,
+        "this looks like JSON, of which --format geojson reads GeoJSON",
+    ),
+    (Sentence::Xml, "this looks like XML, which isn't read"),
+    (Sentence::Wkt, "this looks like WKT, which isn't read"),
+    (Sentence::Binary, "this is binary, and only text is read"),
+    (
+        Sentence::DecimalComma,
+        "a decimal has a point, and here are commas",
+    ),
+    (
+        Sentence::NoColumns,
+        "--columns takes two columns, as 2,3 or lon,lat, by number from 1 or by name",
+    ),
+    (Sentence::NoName, "there is no column of this name"),
+    (Sentence::FewColumns, "the line has too few columns"),
+    (
+        Sentence::Ends,
+        "the file ends before all that its counts say",
+    ),
+    (
+        Sentence::NoCount,
+        "a line of Triangle's formats begins with a count here",
+    ),
+    (
+        Sentence::NoCounts,
+        "a .node or .poly begins with a count of points, and then 2",
+    ),
+    (
+        Sentence::PointsElsewhere,
+        "the points are in a .node, to which this .poly is --constraints or --outline",
+    ),
+    (
+        Sentence::OtherPoints,
+        "the .poly has another count of points than the input",
+    ),
+    (
+        Sentence::NoNode,
+        "a point of a .node or .poly has a number and two coordinates",
+    ),
+    (
+        Sentence::NoSegment,
+        "a segment of a .poly has a number and those of two points",
+    ),
+    (
+        Sentence::OutOfOrder,
+        "points of a .node or .poly are numbered in their order, from 0 or 1",
+    ),
+    (
+        Sentence::MorePoints,
+        "the .node has more points than its count says",
+    ),
+    (
+        Sentence::Holes,
+        "there are holes, which only --outline takes, as curves inside others",
+    ),
+    (
+        Sentence::ReadTwice,
+        "a .poly is read twice, and needs a file",
+    ),
+    (
+        Sentence::LocatesAlone,
+        "--locate stands without --nearest, --svg, constraints and outlines",
+    ),
+    (Sentence::Constrained, "--voronoi takes no segments"),
+    (
+        Sentence::Outlined,
+        "--words takes no outline, which the rings of a GeoJSON are",
+    ),
+    (
+        Sentence::NoScale,
+        "a scale is a power of ten, from 1 to 10^18, that makes all coordinates whole, as 1000",
+    ),
+    (
+        Sentence::OtherPaths,
+        "lines and rings of a GeoJSON join its own points, and the input has others",
+    ),
+    (
+        Sentence::NoAngle,
+        "--refine takes an angle from 0 to 45 degrees",
+    ),
+    (Sentence::NoArea, "--max-area takes an area above 0"),
+    (Sentence::NoMost, "--max-points takes a whole number"),
+    (
+        Sentence::LimitsAlone,
+        "--max-area and --max-points need --refine",
+    ),
+    (
+        Sentence::AddsAlone,
+        "points aren't added beside --nearest, --locate and --voronoi",
+    ),
+];
+
 impl fmt::Display for Sentence {
     fn fmt<W: fmt::Write>(&self, f: &mut fmt::Formatter<W>) -> fmt::Result {
-        f.write_str(match self {
-            Sentence::NoNumber => "a coordinate is no number",
-            Sentence::Brackets => "a point has two numbers without brackets",
-            Sentence::Json => "this looks like JSON, of which --format geojson reads GeoJSON",
-            Sentence::Xml => "this looks like XML, which isn't read",
-            Sentence::Wkt => "this looks like WKT, which isn't read",
-            Sentence::Binary => "this is binary, and only text is read",
-            Sentence::DecimalComma => "a decimal has a point, and here are commas",
-            Sentence::NoColumns => {
-                "--columns takes two columns, as 2,3 or lon,lat, by number from 1 or by name"
+        for (sentence, text) in TEXTS {
+            if *sentence as usize == *self as usize {
+                return f.write_str(text);
             }
-            Sentence::NoName => "there is no column of this name",
-            Sentence::FewColumns => "the line has too few columns",
-            Sentence::Ends => "the file ends before all that its counts say",
-            Sentence::NoCount => "a line of Triangle's formats begins with a count here",
-            Sentence::NoCounts => "a .node or .poly begins with a count of points, and then 2",
-            Sentence::PointsElsewhere => {
-                "the points are in a .node, to which this .poly is --constraints or --outline"
-            }
-            Sentence::OtherPoints => "the .poly has another count of points than the input",
-            Sentence::NoNode => "a point of a .node or .poly has a number and two coordinates",
-            Sentence::NoSegment => "a segment of a .poly has a number and those of two points",
-            Sentence::OutOfOrder => {
-                "points of a .node or .poly are numbered in their order, from 0 or 1"
-            }
-            Sentence::MorePoints => "the .node has more points than its count says",
-            Sentence::Holes => {
-                "there are holes, which only --outline takes, as curves inside others"
-            }
-            Sentence::ReadTwice => "a .poly is read twice, and needs a file",
-            Sentence::LocatesAlone => {
-                "--locate stands without --nearest, --svg, constraints and outlines"
-            }
-            Sentence::Constrained => "--voronoi takes no segments",
-            Sentence::Outlined => "--words takes no outline, which the rings of a GeoJSON are",
-            Sentence::NoScale => {
-                "a scale is a power of ten, from 1 to 10^18, that makes all coordinates whole, as 1000"
-            }
-            Sentence::OtherPaths =>
-                "lines and rings of a GeoJSON join its own points, and the input has others",
-            Sentence::NoAngle => "--refine takes an angle from 0 to 45 degrees",
-            Sentence::NoArea => "--max-area takes an area above 0",
-            Sentence::NoMost => "--max-points takes a whole number",
-            Sentence::LimitsAlone => "--max-area and --max-points need --refine",
-            Sentence::AddsAlone => {
-                "points aren't added beside --nearest, --locate and --voronoi"
-            }
-        })
+        }
+        Ok(())
     }
 }
 

@@ -8,6 +8,7 @@ use crate::fault::{Fault, Wrong};
 use crate::fields::{uncommented, unquoted};
 use crate::format::Format;
 use crate::geojson::read_shapes;
+use crate::quoting::Sentence;
 use crate::triangle::read_points;
 use crate::unit::{Moves, Unit};
 use dcel_decimals::{Decimal, Grid, Scale};
@@ -118,7 +119,7 @@ impl Coordinates {
         }
         for (line, two) in self.lines.iter().zip(self.all.chunks(2)) {
             if Scale::least(two).is_none() {
-                let wrong = Wrong::TooManyPlaces;
+                let wrong = Wrong::Said(Sentence::TooManyPlaces);
                 return Err(Fault::Line { line: *line, wrong });
             }
         }
@@ -208,10 +209,10 @@ pub fn two_words(words: &str) -> Result<(&str, &str), Wrong> {
         return Ok((only_word(x)?, only_word(y)?));
     }
     let mut words = words.split_ascii_whitespace();
-    let x = words.next().ok_or(Wrong::OneWord)?;
-    let y = words.next().ok_or(Wrong::OneWord)?;
+    let x = words.next().ok_or(Wrong::Said(Sentence::OneWord))?;
+    let y = words.next().ok_or(Wrong::Said(Sentence::OneWord))?;
     if words.next().is_some() {
-        return Err(Wrong::MoreWords);
+        return Err(Wrong::Said(Sentence::MoreWords));
     }
     Ok((unquoted(x), unquoted(y)))
 }
@@ -219,9 +220,9 @@ pub fn two_words(words: &str) -> Result<(&str, &str), Wrong> {
 /// Returns the one word beside a comma or a semicolon.
 fn only_word(part: &str) -> Result<&str, Wrong> {
     let mut words = unquoted(part).split_ascii_whitespace();
-    let word = words.next().ok_or(Wrong::OneWord)?;
+    let word = words.next().ok_or(Wrong::Said(Sentence::OneWord))?;
     if words.next().is_some() || word.contains(',') || word.contains(';') {
-        return Err(Wrong::MoreWords);
+        return Err(Wrong::Said(Sentence::MoreWords));
     }
     Ok(word)
 }

@@ -3,6 +3,7 @@
 use crate::answering::write_drawn;
 use crate::arguments::Arguments;
 use crate::constraining::{inside_of, marks, triangulation_of};
+use crate::counts::Added;
 use crate::drawn::{Drawn, Names};
 use crate::fault::{Fault, Wrong};
 use crate::limits::Limits;
@@ -77,12 +78,12 @@ fn write_refinement<W: Write>(
     task: &Task,
     refinement: &Refinement,
 ) -> Result<(), Fault> {
-    let added = refinement.points.len().saturating_sub(task.points.len());
+    let added = Added(refinement.points.len().saturating_sub(task.points.len()));
     write_drawn(rt, writer, arguments, &refinement.view(task), &[])?;
     if !refinement.is_done {
         return Err(Fault::Input(Wrong::NotRefined(added)));
     }
-    eprintln!(rt; "delaunay: {added} points were added")?;
+    eprintln!(rt; "delaunay: {added}")?;
     Ok(())
 }
 

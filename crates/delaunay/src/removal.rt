@@ -2,6 +2,7 @@
 
 use crate::fault::{Fault, Wrong};
 use crate::numbering::Numbering;
+use crate::quoting::Sentence;
 use dcel_programs::{before_comment, numbered_lines, read_text};
 use std::rt::Files;
 
@@ -28,7 +29,7 @@ pub fn read_marks(
 /// Marks the point whose number a word says.
 fn mark(marks: &mut [bool], word: &str) -> Result<(), Wrong> {
     let numbering = Numbering::plain(marks.len());
-    let place = numbering.place(number_of(word).ok_or(Wrong::NoPoint)?)?;
+    let place = numbering.place(number_of(word).ok_or(Wrong::Said(Sentence::NoPoint))?)?;
     if let Some(mark) = marks.get_mut(place) {
         *mark = true;
     }

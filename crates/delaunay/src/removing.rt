@@ -2,6 +2,7 @@
 
 use crate::drawn::{Drawn, Names};
 use crate::fault::{Fault, Wrong};
+use crate::quoting::Sentence;
 use dcel_delaunay::Triangulation;
 use dcel_output::Triangulated;
 use spade_dcel::handles::FixedVertexHandle;
@@ -119,7 +120,7 @@ fn all_of(alloc: Global, numbers: &[Option<u32>]) -> Result<Vec<u32>, Fault> {
     let mut all = Vec::with_capacity(alloc, numbers.len())?;
     for number in numbers {
         let Some(number) = number else {
-            return Err(Fault::Input(Wrong::NoPointThere));
+            return Err(Fault::Input(Wrong::Said(Sentence::NoPointThere)));
         };
         all.push(*number)?;
     }

@@ -8,6 +8,7 @@ use crate::constraining::at_line;
 use crate::drawn::Names;
 use crate::fault::{Fault, Wrong};
 use crate::fraction::Fraction;
+use crate::quoting::Sentence;
 use crate::segments::segments_of;
 use crate::task::Task;
 use crate::unit::Unit;
@@ -50,7 +51,7 @@ fn lay(
     let from = vertex_of(vertices, segment.from)?;
     let to = vertex_of(vertices, segment.to)?;
     if from == to {
-        return Err(Wrong::OnePoint);
+        return Err(Wrong::Said(Sentence::OnePoint));
     }
     // Each turn inserts a point at least, and leaves fewer edges to cross.
     for _turn in 0..u32::MAX {
@@ -59,11 +60,11 @@ fn lay(
             Err(ConstraintError::Blocked(edges)) => {
                 insert_crossings(triangulation, from, to, &edges, unit)?;
             }
-            Err(ConstraintError::NoVertex) => return Err(Wrong::RemovedPoint),
+            Err(ConstraintError::NoVertex) => return Err(Wrong::Said(Sentence::RemovedPoint)),
             Err(ConstraintError::OutOfMemory) => return Err(NO_MEMORY),
         }
     }
-    Err(Wrong::Crossing)
+    Err(Wrong::Said(Sentence::Crossing))
 }
 
 const NO_MEMORY: Wrong = Wrong::Insertion(InsertionError::OutOfMemory);
@@ -75,7 +76,7 @@ fn vertex_of(
 ) -> Result<FixedVertexHandle, Wrong> {
     match vertices.get(number).copied().flatten() {
         Some(vertex) => Ok(vertex),
-        None => Err(Wrong::RemovedPoint),
+        None => Err(Wrong::Said(Sentence::RemovedPoint)),
     }
 }
 
@@ -128,7 +129,7 @@ fn off_grid(crossing: &Crossing, unit: Unit) -> Wrong
     requires weight { unsigned_abs crossing.now.weight ≤ 2 ^ 109 }
 {
     let Some(divisor) = unit.divisor() else {
-        return Wrong::Crossing;
+        return Wrong::Said(Sentence::Crossing);
     };
     let weight = crossing.weight.unsigned_abs().max(1);
     Wrong::OffGrid(

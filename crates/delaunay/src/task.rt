@@ -5,12 +5,14 @@ ghost use Rattle.delaunay.specs.Asked.{AddsNone};
 ghost use Rattle.delaunay.specs.Placed.{ArePointsOf, IsOnFinest};
 
 use crate::arguments::Arguments;
+use crate::counts::Count;
 use crate::fault::{Fault, Wrong};
 use crate::format::Format;
 use crate::freeing::{Room, finest_scale};
 use crate::geojson::{Which, joins_along};
 use crate::joins::{Form, Join, read_joins};
 use crate::numbering::Numbering;
+use crate::quoting::Sentence;
 use crate::reading::{Coordinates, in_file, read_coordinates};
 use crate::removal::read_marks;
 use crate::unit::{Moves, Unit};
@@ -42,15 +44,12 @@ pub struct Task {
 
 impl Task {
     /// Reads all files. Coordinates are multiplied by the scale that is asked for, or the least, or
-    /// put on a grid. On standard error it says which scale that is, unless 1, and what the grid
-    /// moves.
+    /// put on a grid. On standard error it says which scale that is, if that is asked for, and what
+    /// the grid moves.
     pub fn read(
         rt: &(impl Files + Input + Eprint + AllocGlobal),
         arguments: &Arguments,
     ) -> Result<Self, Fault> {
-        if let Err(wrong) = arguments.check() {
-            return Err(Fault::Input(wrong));
-        }
         let alloc = rt.alloc();
         let mut task = Task {
             points: Vec::new(alloc),
@@ -152,10 +151,12 @@ impl Task {
     fn take_room(&mut self, rt: &(impl Eprint + AllocGlobal), room: Room) -> Result<(), Fault> {
         self.points = room.finer(rt.alloc(), &self.points)?;
         self.unit = room.finer_unit();
-        eprintln!(rt;
-            "delaunay: {} bits of coordinates are free for new points",
-            room.bits
-        )?;
+        let bits = Count {
+            count: room.bits as usize,
+            one: "bit of coordinates is free",
+            many: "bits of coordinates are free",
+        };
+        eprintln!(rt; "delaunay: {bits} for new points")?;
         Ok(())
     }
 
@@ -254,12 +255,12 @@ fn room_of(
     }
     match (arguments.is_on_grid, arguments.scale) {
         (true, None) => Ok(Room::by_grid(coordinates.grid(asked))),
-        (true, Some(_)) => Err(Fault::Input(Wrong::ScaledGrid)),
+        (true, Some(_)) => Err(Fault::Input(Wrong::Said(Sentence::ScaledGrid))),
         (false, Some(scale)) => Ok(Room::by_scale(scale, coordinates.scale()?)),
         (false, None) => {
             let least = coordinates.scale()?;
             let scale = finest_scale(rt.alloc(), coordinates, least)?;
-            report_scale(rt, scale)?;
+            report_scale(rt, arguments, scale)?;
             Ok(Room::by_scale(scale, least))
         }
     }
@@ -276,14 +277,14 @@ fn unit_of(
 {
     match (arguments.is_on_grid, arguments.scale) {
         (true, None) => Ok(Unit::Grid(coordinates.grid(asked))),
-        (true, Some(_)) => Err(Fault::Input(Wrong::ScaledGrid)),
+        (true, Some(_)) => Err(Fault::Input(Wrong::Said(Sentence::ScaledGrid))),
         (false, Some(scale)) => Ok(Unit::Scale(scale)),
         (false, None) => {
             let scale = asked
                 .scale()
                 .map_err(|fault| in_file(rt.alloc(), arguments.places(), fault));
             let least = greater(coordinates.scale()?, scale?);
-            report_scale(rt, least)?;
+            report_scale(rt, arguments, least)?;
             Ok(Unit::Scale(least))
         }
     }
@@ -297,9 +298,9 @@ fn report_first(rt: &impl Eprint, first: usize) -> io::Result<()> {
     Ok(())
 }
 
-/// Says on standard error which scale it is, unless it is 1.
-fn report_scale(rt: &impl Eprint, scale: Scale) -> io::Result<()> {
-    if scale != Scale::ONE {
+/// Says on standard error which scale it is, if that is asked for, unless it is 1.
+fn report_scale(rt: &impl Eprint, arguments: &Arguments, scale: Scale) -> io::Result<()> {
+    if scale != Scale::ONE && arguments.reports_scale() {
         eprintln!(rt; "delaunay: the scale is {}", scale.factor())?;
     }
     Ok(())

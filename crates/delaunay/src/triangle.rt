@@ -1,11 +1,11 @@
 //! Files of the program Triangle: `.node` has points, `.poly` points and segments between them.
 
-use crate::fault::{Fault, Wrong};
+use crate::fault::{Fault, Wrong, coordinate_of};
 use crate::joins::Join;
 use crate::numbering::Numbering;
 use crate::quoting::Sentence;
 use crate::reading::Coordinates;
-use dcel_decimals::{Decimal, DecimalError};
+use dcel_decimals::Decimal;
 use dcel_programs::{NumberedLines, before_comment, numbered_lines};
 use std::alloc::Global;
 
@@ -226,13 +226,9 @@ fn point_of(row: &str) -> Result<(usize, [Decimal; 2]), Wrong> {
 
 /// Returns the coordinate that a line has in a place.
 fn coordinate(row: &str, place: usize) -> Result<Decimal, Wrong> {
-    let Some(word) = row.split_ascii_whitespace().nth(place) else {
-        return Err(Wrong::quoting(Sentence::NoNode, row));
-    };
-    match Decimal::read(word) {
-        Ok(number) => Ok(number),
-        Err(DecimalError::NotDecimal) => Err(Wrong::quoting(Sentence::NoNumber, word)),
-        Err(error) => Err(error.into()),
+    match row.split_ascii_whitespace().nth(place) {
+        Some(word) => coordinate_of(word),
+        None => Err(Wrong::quoting(Sentence::NoNode, row)),
     }
 }
 
@@ -243,7 +239,7 @@ fn ends_of(row: &str, numbering: Numbering) -> Result<(usize, usize), Wrong> {
     };
     let (from, to) = (numbering.place(from)?, numbering.place(to)?);
     if from == to {
-        return Err(Wrong::OnePoint);
+        return Err(Wrong::Said(Sentence::OnePoint));
     }
     Ok((from, to))
 }

@@ -4,6 +4,7 @@ ghost use Rattle.std.specs.Prelude.{◌≡◌, ◌<◌, ◌≤◌, ◌^◌, IfOk
 ghost use Rattle.delaunay.specs.Placed.{IsPlace, IsPointOf};
 
 use crate::fault::Wrong;
+use crate::quoting::Sentence;
 use dcel_decimals::{Decimal, Grid, Scale, ScalingError, Snapped, Steps};
 use dcel_delaunay::Point;
 use std::fmt;
@@ -69,7 +70,7 @@ fn scaled(coordinate: Decimal, scale: Scale) -> Result<i64, Wrong>
 fn point_at(x: Snapped, y: Snapped) -> Result<Point, Wrong>
     ensures { IfOk result (λ p. (p.x ≡ x.steps) × (p.y ≡ y.steps)) }
 {
-    Point::new(x.steps, y.steps).ok_or(Wrong::TooLarge)
+    Point::new(x.steps, y.steps).ok_or(Wrong::Said(Sentence::TooLarge))
 }
 
 /// How points have moved to the places of a grid.
@@ -101,10 +102,10 @@ impl Moves {
         ensures { IfOk result (IsPointOf (Unit.Grid grid) x y) }
     {
         let Some(left) = grid.snap(x) else {
-            return Err(Wrong::TooLarge);
+            return Err(Wrong::Said(Sentence::TooLarge));
         };
         let Some(right) = grid.snap(y) else {
-            return Err(Wrong::TooLarge);
+            return Err(Wrong::Said(Sentence::TooLarge));
         };
         self.note(left, right);
         point_at(left, right)

@@ -8,6 +8,7 @@ ghost use Rattle.dcel_output.specs.Numbering.{edges_numbered, hull_numbered, tri
 ghost use Rattle.delaunay.specs.Texts.{IsListed, IsStated, across_each, shown, shown_across, shown_edges, text_asked, text_of};
 
 use crate::arguments::Output;
+use crate::counts::Count;
 use crate::listing::{shown_edges, shown_neighbors, shown_triangles};
 use crate::measuring::write_measures;
 use crate::view::{View, count_shown};
@@ -120,16 +121,36 @@ fn write_hull<W: Write, UE>(alloc: Global, writer: &mut W, view: &View<'_, UE>) 
 /// Writes how many there are of each kind.
 fn write_stats<UE>(writer: &mut impl Write, view: &View<'_, UE>) -> io::Result<()> {
     let mesh = view.mesh;
-    writeln!(writer, "{} points", view.points.len())?;
-    writeln!(writer, "{} vertices", mesh.num_vertices())?;
-    writeln!(writer, "{} edges", count_edges(view))?;
-    writeln!(writer, "{} triangles", count_triangles(view))?;
-    writeln!(writer, "{} vertices on the hull", hull_size(mesh))?;
+    let counts = [
+        counted(view.points.len(), "point", "points"),
+        counted(mesh.num_vertices(), "vertex", "vertices"),
+        counted(count_edges(view), "edge", "edges"),
+        counted(count_triangles(view), "triangle", "triangles"),
+        counted(
+            hull_size(mesh),
+            "vertex on the hull",
+            "vertices on the hull",
+        ),
+    ];
+    for count in counts.iter() {
+        writeln!(writer, "{count}")?;
+    }
+    write_marked(writer, view)
+}
+
+/// Returns so many things.
+fn counted<'a>(count: usize, one: &'a str, many: &'a str) -> Count<'a> {
+    Count { count, one, many }
+}
+
+/// Writes how many edges are marked, if some may be, and what is measured, if something is.
+fn write_marked<UE>(writer: &mut impl Write, view: &View<'_, UE>) -> io::Result<()> {
     if let Some(marks) = view.is_marked {
-        writeln!(writer, "{} constraint edges", count_shown(marks))?;
+        let count = counted(count_shown(marks), "constraint edge", "constraint edges");
+        writeln!(writer, "{count}")?;
     }
     if view.is_measured {
-        write_measures(writer, view)?;
+        return write_measures(writer, view);
     }
     Ok(())
 }

@@ -7,7 +7,7 @@ use std::alloc::Global;
 use std::str::SplitAsciiWhitespace;
 
 /// What a file says behind its header.
-#[derive(Clone, Copy, PartialEq, Eq, Drop)]
+#[derive(Clone, Copy, Drop)]
 pub enum Encoding {
     /// Numbers as text.
     Text,
@@ -114,7 +114,7 @@ pub fn element_of(alloc: Global, mut words: SplitAsciiWhitespace) -> Result<Elem
     };
     Ok(Element {
         kind,
-        count: number(alloc, count)?,
+        count: number(count)?,
         properties: Vec::new(alloc),
     })
 }
@@ -155,19 +155,26 @@ fn property_by(
     }
 }
 
+/// The types, each by both of its names.
+const TYPES: [(&str, &str, NumberType); 8] = [
+    ("char", "int8", NumberType::I8),
+    ("uchar", "uint8", NumberType::U8),
+    ("short", "int16", NumberType::I16),
+    ("ushort", "uint16", NumberType::U16),
+    ("int", "int32", NumberType::I32),
+    ("uint", "uint32", NumberType::U32),
+    ("float", "float32", NumberType::F32),
+    ("double", "float64", NumberType::F64),
+];
+
 /// Returns the type of this name, if there is one.
 fn type_of(name: &str) -> Option<NumberType> {
-    match name {
-        "char" | "int8" => Some(NumberType::I8),
-        "uchar" | "uint8" => Some(NumberType::U8),
-        "short" | "int16" => Some(NumberType::I16),
-        "ushort" | "uint16" => Some(NumberType::U16),
-        "int" | "int32" => Some(NumberType::I32),
-        "uint" | "uint32" => Some(NumberType::U32),
-        "float" | "float32" => Some(NumberType::F32),
-        "double" | "float64" => Some(NumberType::F64),
-        _ => None,
+    for (first, second, number) in TYPES {
+        if name == first || name == second {
+            return Some(number);
+        }
     }
+    None
 }
 
 /// Returns what a property of this name is read as.

@@ -23,16 +23,12 @@ pub fn count_of(bytes: &[u8]) -> Option<u32> {
 }
 
 /// Returns what is wrong with the length of a file, and at which byte.
-pub fn wrong_length(alloc: Global, bytes: &[u8]) -> (usize, Wrong) {
+pub fn wrong_length(bytes: &[u8]) -> (usize, Wrong) {
     let length = bytes.len();
     let Some(count) = said_count(bytes) else {
         return (length, Wrong::NO_STL);
     };
-    let wanted = length_of(count);
-    let wrong = Wrong::text(format!(in alloc;
-        "{count} triangles of binary STL take {wanted} bytes, and the file has {length}"
-    ));
-    (HEAD, wrong)
+    (HEAD, Wrong::StlLength(count, length_of(count), length))
 }
 
 /// Returns the count of triangles, if the file is long enough for one.

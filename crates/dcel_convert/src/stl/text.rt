@@ -9,7 +9,7 @@ use std::alloc::Global;
 use std::str::SplitAsciiWhitespace;
 
 /// What a line begins with.
-#[derive(Clone, Copy, PartialEq, Eq, Drop)]
+#[derive(Clone, Copy, Drop)]
 enum Keyword {
     Solid,
     Facet,
@@ -32,7 +32,7 @@ const KEYWORDS: [(&str, Keyword); 7] = [
 ];
 
 /// What the file is in.
-#[derive(Clone, Copy, PartialEq, Eq, Drop)]
+#[derive(Clone, Copy, Drop)]
 enum Stage {
     Outside,
     Solid,
@@ -102,7 +102,7 @@ impl LineReader<Surface> for StlReader {
             return Ok(());
         };
         let Some(keyword) = self.step(first) else {
-            return Err(Wrong::quoting(alloc, "a line of STL can't begin so here", first));
+            return Err(Wrong::quoting("a line of STL can't begin so here", first));
         };
         match keyword {
             Keyword::Facet => {
@@ -117,10 +117,9 @@ impl LineReader<Surface> for StlReader {
     }
 
     fn end(&mut self, _: Global, _: &mut Surface) -> Result<(), Wrong> {
-        if self.stage == Stage::Outside {
-            Ok(())
-        } else {
-            Err(Wrong::OPEN_SOLID)
+        match self.stage {
+            Stage::Outside => Ok(()),
+            _ => Err(Wrong::OPEN_SOLID),
         }
     }
 }
@@ -144,7 +143,7 @@ impl StlReader {
         let (Some(x), Some(y), Some(z)) = (words.next(), words.next(), words.next()) else {
             return Err(Wrong::TOO_FEW);
         };
-        let corner = corner_of(alloc, x, y, z)?;
+        let corner = corner_of(x, y, z)?;
         let (vertex, is_new) = self.joiner.number_of(corner)?;
         self.corners.push(vertex)?;
         if is_new {
@@ -163,18 +162,18 @@ impl StlReader {
 }
 
 /// Returns the corner that three words say.
-fn corner_of(alloc: Global, x: &str, y: &str, z: &str) -> Result<Corner, Wrong> {
-    let x = bits_of(alloc, x)?;
-    let y = bits_of(alloc, y)?;
-    let z = bits_of(alloc, z)?;
+fn corner_of(x: &str, y: &str, z: &str) -> Result<Corner, Wrong> {
+    let x = bits_of(x)?;
+    let y = bits_of(y)?;
+    let z = bits_of(z)?;
     Ok(Corner::new(x, y, z))
 }
 
 /// Returns the bits of the finite `f64` that a word says, where the two zeros are one.
-fn bits_of(alloc: Global, word: &str) -> Result<u64, Wrong> {
+fn bits_of(word: &str) -> Result<u64, Wrong> {
     match finite(word) {
         Some(number) => Ok(number),
-        None => Err(Wrong::quoting(alloc, NO_COORDINATE, word)),
+        None => Err(Wrong::quoting(NO_COORDINATE, word)),
     }
 }
 
