@@ -10,6 +10,7 @@ from ._delaunay import Delaunay
 from ._errors import (
     BadRing,
     BadStrip,
+    Busy,
     Crosses,
     CutVertex,
     DcelError,
@@ -50,10 +51,10 @@ from ._polygon import triangulate_polygon
 from ._refining import Refined
 
 __all__ = [
-    "NO_LINK", "BadRing", "BadStrip", "Call", "ConstrainedDelaunay", "Crosses", "CutVertex", "Dcel", "DcelError", "Delaunay", "EdgesStand",
-    "Ended", "Fault", "FaultKind", "Faulty", "GivenUp", "Grid", "HalfEdge", "Inexact", "Legalized", "Links", "NoMesh", "NoRemoval",
-    "NoRoom", "NoSuchEdge", "NoSuchEdit", "NoSuchFace", "NoSuchVertex", "NotBridge", "NotInside", "NotLineEnd", "NotOuter", "NotPath",
-    "NotTriangle", "Opened", "OutOfMemory", "OutOfRange", "Place", "Refined", "RemovalOpen", "RemovalState", "Removed", "SameVertex",
-    "SecondEdge", "Short", "ShortBorder", "Status", "Unfinished", "VertexInUse", "WouldLoop", "WrongLists", "__version__", "replies",
-    "triangulate_polygon",
+    "NO_LINK", "BadRing", "BadStrip", "Busy", "Call", "ConstrainedDelaunay", "Crosses", "CutVertex", "Dcel", "DcelError", "Delaunay",
+    "EdgesStand", "Ended", "Fault", "FaultKind", "Faulty", "GivenUp", "Grid", "HalfEdge", "Inexact", "Legalized", "Links", "NoMesh",
+    "NoRemoval", "NoRoom", "NoSuchEdge", "NoSuchEdit", "NoSuchFace", "NoSuchVertex", "NotBridge", "NotInside", "NotLineEnd", "NotOuter",
+    "NotPath", "NotTriangle", "Opened", "OutOfMemory", "OutOfRange", "Place", "Refined", "RemovalOpen", "RemovalState", "Removed",
+    "SameVertex", "SecondEdge", "Short", "ShortBorder", "Status", "Unfinished", "VertexInUse", "WouldLoop", "WrongLists", "__version__",
+    "replies", "triangulate_polygon",
 ]

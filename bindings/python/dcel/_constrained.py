@@ -48,7 +48,6 @@ class ConstrainedDelaunay(Triangulation):
     _calls = calls_of("constrained")
     _free = _calls.free
 
-    @in_turn
     def __init__(
         self,
         points: Iterable[Any] = (),
@@ -152,7 +151,7 @@ class ConstrainedDelaunay(Triangulation):
             flat.frombytes(coordinates(self._steps_of(spare)[2 * first :], self._power).tobytes())
             return self._vertices + array("i", range(first, first + added.value))
 
-        self._forget()
+        self._begin_change()
         self._replace(fill, flat, self._power, self.moved)
         return Refined(added.value, done.value, excepted.value)
 
@@ -180,7 +179,7 @@ class ConstrainedDelaunay(Triangulation):
             laid[:] = self._lay(kept, rows, ends, "segments:" if crossing == "raise" else None)
             return self._vertices
 
-        self._forget()
+        self._begin_change()
         if len(ends) == 2:
             fill(self._kept)
         elif len(ends):
@@ -227,7 +226,7 @@ class ConstrainedDelaunay(Triangulation):
             raise NoSuchEdge(f"remove_constraint: no constraint is an edge between rows {a} and {b}")
         count = self._calls.num_edges(self._kept)
         edge = edge_between(self._listed(self._calls.edges, _declared.Ends, count), one, other)
-        self._forget()
+        self._begin_change()
         self._calls.remove_constraint(self._kept, edge, c_bool())
 
     def _vertex(self, row: Any, name: str) -> int:

@@ -172,8 +172,10 @@ class Edit(Structure):
 
 
 class Reply(Structure):
-    """What the call of an edit returned: its dcel_status; the number that it tells, or the datum of a vertex that was taken out; and the
-    old number of the vertex that has the number of that one now. Where nothing is told, DCEL_NONE."""
+    """What the call of an edit returned: its dcel_status, a number, and, after a removal, the old number of the vertex that took the
+    removed one's number. The number is the one that the call reports; the vertex that dcel_extend_line,
+    dcel_create_new_face_adjacent_to_edge or dcel_insert_into_triangle joins to the others; or the datum of a vertex that was taken out.
+    Where there is none, DCEL_NONE."""
 
     _fields_ = [("status", c_uint64), ("number", c_uint64), ("moved", c_uint64)]
 

@@ -33,7 +33,7 @@ class Delaunay(Triangulation):
 
     Arrays are NumPy's if that is installed, and otherwise memoryviews of the same shape; points that are asked for are then pairs. Those
     of attributes can't be written to. Threads may share a triangulation: they take turns. A change that an interrupt ends is made wholly
-    or not at all, but that `remove` may have removed some.
+    or not at all, but that `remove` may have removed some. A signal handler or a finalizer that comes into the midst of one gets Busy.
 
     >>> made = Delaunay([(0, 0), (4, 0), (0, 3), (5, 5), (2, 2)])
     >>> made
@@ -48,7 +48,6 @@ class Delaunay(Triangulation):
     _calls = calls_of("triangulation")
     _free = _calls.free
 
-    @in_turn
     def __init__(self, points: Iterable[Any] = (), *, grid: Grid | Literal["fit", "exact"] = "fit") -> None:
         self._start(grid)
         self.insert(points)

@@ -186,6 +186,10 @@ class Inexact(DcelError, ValueError):
     row: int  #: of the first such point
 
 
+class Busy(DcelError, RuntimeError):
+    """A signal handler, a finalizer or an iterator can't use a triangulation that its thread is changing, nor change it within another call."""
+
+
 class Unfinished(DcelError, MemoryError):
     """There was no memory to make the triangulation whole. The next call that changes it does so."""
 
@@ -232,7 +236,7 @@ class NoSuchEdit(DcelError, ValueError):
 
 ERRORS: dict[int, type[DcelError]] = {kind.status: kind for kind in DcelError.__subclasses__() if kind.status is not None}
 
-for _kind in (DcelError, Inexact, *ERRORS.values()):
+for _kind in (DcelError, Inexact, Busy, *ERRORS.values()):
     _kind.__module__ = "dcel"  # where callers find it, and what they are shown
 
 

@@ -465,9 +465,10 @@ class Dcel:
         """Makes edits, one after the other, by one call, and returns what each returned.
 
         `edits` is an array of shape (k, 4), or rows of up to four numbers: a `Call`, and the numbers that it takes. The result has the
-        shape (k, 3): a `Status`, 0 for an edit that is made; the number that the call returns, or the datum of a vertex that is taken out;
-        and the old number of the vertex that has its number now. It has `NONE` where a call returns nothing. It is an array of NumPy's if
-        that is installed, and otherwise a memoryview. An edit that is refused changes nothing, and the next follows.
+        shape (k, 3): a `Status`, 0 for an edit that is made; the number that the call returns, the vertex that `extend_line`,
+        `create_new_face_adjacent_to_edge` or `insert_into_triangle` joins to the others, or the datum of a vertex that is taken out; and
+        the old number of the vertex that has its number now. It has `NONE` where there is none. It is an array of NumPy's if that is
+        installed, and otherwise a memoryview. An edit that is refused changes nothing, and the next follows.
 
         >>> from dcel import Call
         >>> mesh = Dcel()

@@ -6,7 +6,6 @@ from array import array
 from collections.abc import Callable, Iterable, Sequence
 from ctypes import Structure, c_uint32, c_uint64, sizeof
 from operator import index
-from threading import RLock
 from types import SimpleNamespace
 from typing import Any, ClassVar, Literal, NoReturn, Self
 
@@ -47,7 +46,7 @@ from ._tables import (
     there,
     triangles_at,
 )
-from ._turns import in_turn, kept_list
+from ._turns import Turn, in_turn, kept_list
 
 
 class Triangulation:
@@ -63,15 +62,16 @@ class Triangulation:
     _flat: array[float]  # the coordinates, as they were given
     _vertices: array[int]  # by row, -1 where it was removed
     _rows: array[int]  # by vertex, the least one
-    _turn: RLock  # of threads
+    _turn: Turn  # of calls
     moved: float  #: how far the grid moved a point at most, in the unit of the coordinates: 0.0 if it moved none
 
     def __new__(cls, *given: Any, **named: Any) -> Self:
         self = super().__new__(cls)
         self._kept = self._Kept()
-        self._turn = RLock()
+        self._turn = Turn()
         return self
 
+    @in_turn
     def _start(self, grid: Grid | Literal["fit", "exact"]) -> None:
         """Begins with no points."""
         if not isinstance(grid, Grid) and grid not in ("fit", "exact"):
@@ -79,7 +79,7 @@ class Triangulation:
         self._is_exact, self._fits = grid == "exact", not isinstance(grid, Grid)
         self._power = power_of_step(grid.step) if isinstance(grid, Grid) else LEAST_POWER
         self._flat, self._vertices, self._rows, self.moved = array("d"), array("i"), array("i"), 0.0
-        self._forget()
+        self._begin_change()
         self._calls.new(self._kept)
 
     def __del__(self) -> None:
@@ -155,7 +155,7 @@ class Triangulation:
         moved = far_moved(flat, steps, power)
         if self._is_exact and moved:
             refuse_inexact(flat, steps, power, range(count))
-        self._forget()
+        self._begin_change()
         if power != self._power and first:
             self._regrid(power, flat)
         else:
@@ -254,7 +254,7 @@ class Triangulation:
         runs out, OutOfMemory: some are removed then, whose `vertex_to_simplex` is -1."""
         wanted = self._wanted(rows)
         gone = only_ones(self._vertices, wanted, len(self._rows))
-        self._forget()
+        self._begin_change()
         try:
             for vertex in gone:
                 self._take_out(vertex)
@@ -314,10 +314,12 @@ class Triangulation:
             raise IndexError(f"{name}: there is no row {row}" if not 0 <= row < len(self._vertices) else f"{name}: row {row} was removed")
         return row
 
-    def _forget(self) -> None:
-        """Forgets arrays, before a change."""
-        for name in [it for it in self.__dict__ if isinstance(getattr(type(self), it, None), kept_list)]:
-            del self.__dict__[name]
+    def _begin_change(self) -> None:
+        """Forgets arrays, before a change. None is found until the call ends."""
+        self._turn.change()
+        for name in list(self.__dict__):
+            if isinstance(getattr(type(self), name, None), kept_list):
+                del self.__dict__[name]
 
     # Lists.
 

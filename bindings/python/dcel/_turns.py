@@ -1,22 +1,55 @@
-"""What threads that share an object wait for: one of them at a time is in a call of it."""
+"""What calls of an object wait for: one thread at a time is in them, and a change that it makes is within no other call."""
 
 from __future__ import annotations
 
 from collections.abc import Callable
 from functools import cached_property, wraps
+from threading import RLock
 from typing import Any, Concatenate, ParamSpec, TypeVar
+
+from ._errors import Busy
 
 Given = ParamSpec("Given")
 Result = TypeVar("Result")
 
+# In place of how many calls a thread is in.
+CHANGING = -1
+
+
+class Turn:
+    """Whose turn it is in the calls of an object. A thread may come in again: by a signal handler, a finalizer, or what it iterates over. Then
+    it may read, unless it is changing the object."""
+
+    def __init__(self) -> None:
+        self._lock = RLock()
+        self._calls = 0  # that are under way, one within the other
+
+    def take(self, call: Callable[Given, Result], *given: Given.args, **named: Given.kwargs) -> Result:
+        """Calls, once no other thread is in a call of the object."""
+        with self._lock:
+            calls = self._calls
+            if calls == CHANGING:
+                raise Busy("this thread is changing the triangulation: until that is done, a signal handler or a finalizer can't use it")
+            try:
+                self._calls = calls + 1
+                return call(*given, **named)
+            finally:
+                self._calls = calls
+
+    def change(self) -> None:
+        """Marks the current call as a change: until it ends, no other call is let in."""
+        if self._calls != 1:
+            raise Busy("this thread is in another call: within it a signal handler, a finalizer or an iterator can't change the triangulation")
+        self._calls = CHANGING
+
 
 def in_turn(method: Callable[Concatenate[Any, Given], Result]) -> Callable[Concatenate[Any, Given], Result]:
-    """A method that waits until no other thread is in one of the same object, whose `_turn` is an RLock."""
+    """A method that takes its turn among those of the same object, by its `_turn`."""
 
     @wraps(method)
     def call(self: Any, *given: Given.args, **named: Given.kwargs) -> Result:
-        with self._turn:
-            return method(self, *given, **named)
+        result: Result = self._turn.take(method, self, *given, **named)
+        return result
 
     return call
 
@@ -30,8 +63,7 @@ class kept_list(cached_property[Any]):
     def __get__(self, it: Any, kind: type | None = None) -> Any:
         if it is None:
             return self
-        with it._turn:
-            return super().__get__(it, kind)
+        return it._turn.take(super().__get__, it, kind)
 
 
 def read_only(found: Any) -> Any:

@@ -116,6 +116,24 @@ class Random(Checked):
         self.assertEqual((wanted, len(found)), (len(made.simplices), len(places)))
         self.assertLess(located - triangulated, 5 * (triangulated - begun))
 
+    def test_thousands(self) -> None:
+        """Thousands of constraints stay while points come and go, and points are found among them, each as it is by itself."""
+        points, segments = [(it, it * it % 1013) for it in range(5000)], [(it, it + 1) for it in range(4999)]
+        made = ConstrainedDelaunay(points, segments)
+        with self.assertRaises(Crosses) as raised:
+            ConstrainedDelaunay(points, [*segments, (0, 4999)])
+        self.assertEqual((raised.exception.row, len(made.constraints), len(made.regions)), (4999, 4999, len(made.simplices)))
+        kinds, rows = (it.tolist() for it in made.locate(points))
+        self.assertEqual((set(kinds), rows), ({Place.ON_VERTEX}, list(range(5000))))
+        asked = [(it * 5, it * 577 % 1117) for it in range(1000)]
+        for point, kind in zip(asked, made.locate(asked)[0].tolist(), strict=True):
+            self.assertEqual(made.locate([point])[0].tolist(), [kind])
+        other = made.copy()
+        other.remove(range(0, 5000, 2))
+        self.assertEqual((len(other.constraints), len(made.constraints)), (0, 4999))
+        self.assertEqual(made.insert(points).tolist(), list(range(5000, 10_000)))
+        self.assertEqual(len(made.constraints), 4999)
+
     def test_faults_are_found(self) -> None:
         """Lists with something wrong in them are judged wrong."""
         given, segments = [*SQUARE[:5], (5, 3)], [*BORDER, (4, 5)]

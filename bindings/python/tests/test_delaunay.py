@@ -83,6 +83,32 @@ class Triangles(unittest.TestCase):
                 lists = (getattr(made, name).tolist() for name in ("simplices", "neighbors", "edges", "hull"))
                 laid.judge(dict(enumerate(points)), set(), laid.Lists(*lists, [], [0] * len(made.simplices)))
 
+    def test_thousands(self) -> None:
+        """Lists of thousands of points fit together, points are found at their rows, and half of them can go."""
+        points = [(it * 619 % 5009, it * it % 5011) for it in range(5000)]
+        made = Delaunay(points)
+        self.check_large(made, 5000)
+        self.assertEqual(made.nearest(points).tolist(), list(range(5000)))
+        kinds, rows = (it.tolist() for it in made.locate(points))
+        self.assertEqual((set(kinds), rows), ({Place.ON_VERTEX}, list(range(5000))))
+        other = made.copy()
+        other.remove(range(0, 5000, 2))
+        self.check_large(other, 2500)
+        self.check_large(made, 5000)
+        self.assertEqual(made.insert(points).tolist(), list(range(5000, 10_000)))
+        self.check_large(made, 5000)
+
+    def check_large(self, made: Delaunay, count: int) -> None:
+        """Neighbors have a side in common, and lists are as long as Euler's formula says."""
+        triangles, hull = made.simplices.tolist(), made.hull.tolist()
+        self.assertEqual((len(triangles) + len(hull) + 2, len(made.edges) + len(hull) + 3), (2 * count, 3 * count))
+        outer = {*zip(hull, hull[1:] + hull[:1], strict=True)}
+        for rows, others in zip(triangles, made.neighbors.tolist(), strict=True):
+            for corner, other in enumerate(others):
+                a, b = rows[corner - 2], rows[corner - 1]
+                beyond = triangles[other] if other >= 0 else []
+                self.assertTrue((a, b) in outer if other < 0 else (b, a) in zip(beyond, beyond[1:] + beyond[:1], strict=True))
+
     def test_line(self) -> None:
         for count in range(4):
             self.assertEqual(len(Delaunay([(it, 2 * it) for it in range(count)]).simplices), 0)

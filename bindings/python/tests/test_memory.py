@@ -151,11 +151,14 @@ class Memory(unittest.TestCase):
 
     def sweep_constrained(self, standing: ConstrainedDelaunay, call: Callable[[ConstrainedDelaunay], object], constraints: set[int]) -> int:
         """How often a call is refused, if it is allowed one request more each time. So many constraints may be left."""
+        wanted = sorted(map(sorted, standing.simplices.tolist()))
         for met in range(1000):
             made = standing.copy()
             if not self.refused(met, lambda: call(made)):  # noqa: B023
                 return met
             self.assertIn(len(made.constraints), constraints)
+            if constraints == {4}:
+                self.assertEqual(sorted(map(sorted, made.simplices.tolist())), wanted)
             self.assertEqual((len(made.simplices), len(made.points), made.find_simplex([(7, 7)]).tolist()), (6, 6, [-1]))
             self.assertEqual((made.simplices.tolist(), made.constraints.tolist()), (made.copy().simplices.tolist(), made.copy().constraints.tolist()))
         self.fail("it finds no memory, however much there is")

@@ -116,6 +116,17 @@ class Outlines(unittest.TestCase):
                 done += self.check(rng, points, segments, wanted)
         self.assertGreater(done, 80)
 
+    def test_worked(self) -> None:
+        """A square with a point near its middle and one near a side, and a triangle with a corner of 14 degrees, whose angle stays."""
+        unit, whole = 4096, Grid(1.0)
+        square = [(0, 0), (1000, 0), (1000, 1000), (0, 1000), (510, 500), (500, 10)]
+        made = ConstrainedDelaunay([(unit * x, unit * y) for x, y in square], BORDER, grid=whole)
+        came = made.refine(20, None, 200)
+        self.assertTrue(came.done and 0 < came.added <= 40 and came.excepted == 0 and len(made.constraints) > 4)
+        sharp = ConstrainedDelaunay([(0, 0), (1000 * unit, 0), (1000 * unit, 250 * unit)], [(0, 1), (1, 2), (2, 0)], grid=whole)
+        self.assertEqual(sharp.refine(20, None, 200), Refined(0, True, 1))
+        self.assertEqual(sharp.refine(20, 2.0**37, 1), Refined(1, False, 1))
+
     def test_no_room(self) -> None:
         """Without a point of the grid on constraints some outlines stay as they are, which is said."""
         done = 0

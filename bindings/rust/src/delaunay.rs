@@ -63,7 +63,7 @@ pub use queries::PositionInTriangulation;
 pub use refinement::{AngleLimit, RefinementParameters, RefinementResult};
 
 use crate::Dcel;
-use crate::ffi::{Kept, Mesh, Point};
+use crate::ffi::{Kept, Mesh, Point, place};
 use crate::handles::FixedVertexHandle;
 use crate::operations::RemovalResult;
 use crate::refusal::Refusal;
@@ -233,7 +233,7 @@ impl<V: HasPosition, K: Kind> Triangulation<V, K> {
     ///
     /// # Errors
     ///
-    /// [`Refusal::NoRoom`] and [`Refusal::OutOfMemory`].
+    /// As [`remove`](Self::remove), but for [`Refusal::NoSuchVertex`].
     ///
     /// ```
     /// use dcel::delaunay::{DelaunayTriangulation, Point2};
@@ -245,12 +245,15 @@ impl<V: HasPosition, K: Kind> Triangulation<V, K> {
     /// # Ok::<(), Box<dyn std::error::Error>>(())
     /// ```
     pub fn locate_and_remove(&mut self, point: Point2) -> Result<Option<V>, Refusal> {
-        match self.locate(point) {
-            PositionInTriangulation::OnVertex(vertex) => {
-                Ok(Some(self.remove(vertex)?.removed_vertex))
-            }
-            _ => Ok(None),
+        let Ok(in_range) = point.in_range() else {
+            return Ok(None); // there is no vertex out there
+        };
+        let position = self.try_whole()?.locate(in_range);
+        if position.kind != place::ON_VERTEX {
+            return Ok(None);
         }
+        let removed = self.remove(FixedVertexHandle::of(position.number))?;
+        Ok(Some(removed.removed_vertex))
     }
 
     /// Makes room for more vertices' values and keys.
@@ -300,14 +303,18 @@ impl<V: HasPosition> DelaunayTriangulation<V> {
 }
 
 impl<V, K: Kind> Triangulation<V, K> {
-    /// Returns the triangulation, whole: edges may be left to flip where memory ran out. Panics if
-    /// there is no memory for that.
-    fn whole(&self) -> &K::Kept {
+    /// Returns the triangulation, whole: edges may be left to flip where memory ran out.
+    fn try_whole(&self) -> Result<&K::Kept, Refusal> {
         if !self.kept.is_whole() {
-            self.kept.finish().expect(MEMORY);
+            self.kept.finish()?;
             self.is_stale.set(true);
         }
-        &self.kept
+        Ok(&self.kept)
+    }
+
+    /// Does the same, and panics if there is no memory for that.
+    fn whole(&self) -> &K::Kept {
+        self.try_whole().expect(MEMORY)
     }
 
     /// Returns the mesh, which is made anew if it has changed. Panics if there is no memory for

@@ -2,28 +2,40 @@
 
 use crate::refusal::Refusal;
 use std::collections::TryReserveError;
+use std::mem;
 
-/// Values, each under a key above 0.
+/// Values, each under a key above 0. Free places are linked through
+/// the list itself, so taking a value out needs no memory.
 pub(crate) struct Slab<T> {
-    places: Vec<Option<T>>,
-    free: Vec<usize>,
+    places: Vec<Place<T>>,
+    /// The key that was freed last, or 0.
+    free: u64,
+    filled: usize,
+}
+
+#[derive(Clone)]
+enum Place<T> {
+    Filled(T),
+    /// With the key that is to be used again after this one, or 0.
+    Free(u64),
 }
 
 impl<T> Slab<T> {
     pub(crate) const fn new() -> Self {
         Self {
             places: Vec::new(),
-            free: Vec::new(),
+            free: 0,
+            filled: 0,
         }
     }
 
     pub(crate) fn is_empty(&self) -> bool {
-        self.places.len() == self.free.len()
+        self.filled == 0
     }
 
     /// Makes room for that many more values.
     pub(crate) fn try_reserve(&mut self, more: usize) -> Result<(), Refusal> {
-        let more = more.saturating_sub(self.free.len());
+        let more = more.saturating_sub(self.places.len() - self.filled);
         self.places.try_reserve(more).map_err(no_memory)
     }
 
@@ -55,54 +67,59 @@ impl<T> Slab<T> {
 
     /// Takes a value in, and returns its key.
     pub(crate) fn insert(&mut self, value: T) -> u64 {
-        let place = self.free.pop().unwrap_or(self.places.len());
-        match self.places.get_mut(place) {
-            Some(free) => *free = Some(value),
-            None => self.places.push(Some(value)),
+        let (key, filled) = (self.free, Place::Filled(value));
+        self.filled += 1;
+        if key == 0 {
+            self.places.push(filled);
+            return self.places.len() as u64;
         }
-        place as u64 + 1
+        match mem::replace(&mut self.places[place_of(key)], filled) {
+            Place::Free(next) => self.free = next,
+            Place::Filled(_) => unreachable!("a free key has no value"),
+        }
+        key
     }
 
-    /// Takes the value of a key out, after which the key is free. It asks for no memory if the key
-    /// is the last that was given, and still the greatest.
+    /// Takes the value of a key out, after which the key is free.
     pub(crate) fn remove(&mut self, key: u64) -> T {
-        let place = place_of(key);
-        let filled = self.places.get_mut(place).and_then(Option::take);
-        let value = filled.expect(FILLED);
-        if place + 1 == self.places.len() {
-            self.places.pop();
-        } else {
-            self.free.push(place);
+        let free = Place::Free(self.free);
+        match mem::replace(&mut self.places[place_of(key)], free) {
+            Place::Filled(value) => {
+                self.free = key;
+                self.filled -= 1;
+                value
+            }
+            Place::Free(_) => panic!("{FILLED}"),
         }
-        value
     }
 
     #[inline]
     pub(crate) fn get(&self, key: u64) -> &T {
-        self.places[place_of(key)].as_ref().expect(FILLED)
+        match &self.places[place_of(key)] {
+            Place::Filled(value) => value,
+            Place::Free(_) => panic!("{FILLED}"),
+        }
     }
 
     #[inline]
     pub(crate) fn get_mut(&mut self, key: u64) -> &mut T {
-        self.places[place_of(key)].as_mut().expect(FILLED)
+        match &mut self.places[place_of(key)] {
+            Place::Filled(value) => value,
+            Place::Free(_) => panic!("{FILLED}"),
+        }
     }
 }
 
 impl<T: Clone> Slab<T> {
     /// Clones all values, under the same keys.
     pub(crate) fn try_clone(&self) -> Result<Self, Refusal> {
-        Ok(Self {
-            places: try_cloned(&self.places)?,
-            free: try_cloned(&self.free)?,
-        })
+        let mut places = Vec::new();
+        places
+            .try_reserve_exact(self.places.len())
+            .map_err(no_memory)?;
+        places.extend_from_slice(&self.places);
+        Ok(Self { places, ..*self })
     }
-}
-
-fn try_cloned<T: Clone>(items: &[T]) -> Result<Vec<T>, Refusal> {
-    let mut clones = Vec::new();
-    clones.try_reserve_exact(items.len()).map_err(no_memory)?;
-    clones.extend_from_slice(items);
-    Ok(clones)
 }
 
 /// Tells that a list found no memory, or would have no room in all memory.
@@ -191,7 +208,7 @@ impl<T> Values<T> {
 
     /// Takes all written values out.
     pub(crate) fn take_all(&mut self) -> Slab<T> {
-        std::mem::replace(&mut self.written, Slab::new())
+        mem::replace(&mut self.written, Slab::new())
     }
 }
 
@@ -227,6 +244,8 @@ mod tests {
             ['a', 'e', 'c']
         );
         assert!(slab.is_empty());
+        let again = ['f', 'g', 'h', 'i'].map(|value| slab.insert(value));
+        assert_eq!(again, [3, 2, 1, 4]);
     }
 
     #[test]

@@ -232,6 +232,250 @@ fn what_is_refused_changes_nothing() {
     );
 }
 
+/// Points by their coordinates.
+type Places = &'static [(i64, i64)];
+
+fn points_at(places: &[(i64, i64)]) -> Vec<Point2> {
+    places.iter().map(|(x, y)| Point2::new(*x, *y)).collect()
+}
+
+/// Inserts points one by one, so that vertices have their numbers.
+fn numbered(places: &[(i64, i64)]) -> DelaunayTriangulation<Point2> {
+    let mut triangulation = DelaunayTriangulation::new().unwrap();
+    for (number, point) in points_at(places).into_iter().enumerate() {
+        assert_eq!(triangulation.insert(point).unwrap().index(), number);
+    }
+    triangulation
+}
+
+fn counts(triangulation: &DelaunayTriangulation<Point2>) -> [usize; 3] {
+    [
+        triangulation.num_vertices(),
+        triangulation.num_undirected_edges(),
+        triangulation.num_inner_faces(),
+    ]
+}
+
+/// Points, the vertex that is removed, which one gets its number, and the numbers of vertices, edges
+/// and inner faces that are left.
+type Removal = (Places, usize, Option<usize>, [usize; 3]);
+
+/// Eight points on a hull, and one inside that has them all as neighbors.
+const HUB: Places = &[
+    (0, 0),
+    (4, 0),
+    (3, 3),
+    (0, 4),
+    (-3, 3),
+    (-4, 0),
+    (-3, -3),
+    (0, -4),
+    (3, -3),
+];
+
+const SQUARE: Places = &[(0, 0), (4, 0), (4, 4), (0, 4), (2, 2)];
+const BETWEEN: Places = &[(0, 0), (2, 0), (4, 0), (4, 4), (0, 4), (2, 1)];
+const FOUR: Places = &[(0, 0), (-2, 0), (2, -3), (1, 0), (2, 3)];
+const FAN: Places = &[(0, 3), (0, 0), (1, 0), (2, 0), (5, 0)];
+const LINE: Places = &[(0, 0), (1, 1), (2, 2), (3, 3)];
+
+const REMOVALS: [Removal; 15] = [
+    // Inside: the middle of a square, vertices of three edges and of four that can't be flipped.
+    (SQUARE, 4, None, [4, 5, 2]),
+    (&[(0, 0), (6, 0), (1, 1), (0, 6)], 2, Some(3), [3, 3, 1]),
+    (FOUR, 0, Some(4), [4, 6, 3]),
+    (HUB, 0, Some(8), [8, 13, 6]),
+    // Corners, one of many edges, and one whose neighbors are on one line then.
+    (HUB, 3, Some(8), [8, 14, 7]),
+    (SQUARE, 0, Some(4), [4, 5, 2]),
+    // Between two corners.
+    (&[(0, 0), (2, 0), (4, 0), (1, 3)], 1, Some(3), [3, 3, 1]),
+    (BETWEEN, 1, Some(5), [5, 8, 4]),
+    // No triangle is left.
+    (&[(0, 0), (4, 0), (0, 4)], 1, Some(2), [2, 1, 0]),
+    (FAN, 0, Some(4), [4, 3, 0]),
+    (&[(0, 0), (4, 2), (2, 1)], 2, None, [2, 1, 0]),
+    (LINE, 1, Some(3), [3, 2, 0]),
+    (LINE, 0, Some(3), [3, 2, 0]),
+    (&[(0, 0), (1, 0)], 0, Some(1), [1, 0, 0]),
+    (&[(5, 7)], 0, None, [0, 0, 0]),
+];
+
+#[test]
+fn vertices_are_removed() {
+    for (places, vertex, moved, left) in REMOVALS {
+        let mut triangulation = numbered(places);
+        let removed = triangulation
+            .remove(FixedVertexHandle::new(vertex))
+            .unwrap();
+        let mut rest = points_at(places);
+        assert_eq!(removed.removed_vertex, rest.swap_remove(vertex));
+        assert_eq!(removed.swapped_in_vertex.map(|it| it.index()), moved);
+        assert_eq!(counts(&triangulation), left, "{places:?}");
+        let numbers = (0..).map(FixedVertexHandle::new);
+        check(&triangulation, &rest.into_iter().zip(numbers).collect());
+    }
+}
+
+/// From the first on, from the middle one, and from the last.
+#[test]
+fn a_grid_is_removed() {
+    let places: Vec<_> = (0..36).map(|it| (it / 6, it % 6)).collect();
+    for halves in 0..3 {
+        let (mut triangulation, mut rest) = (numbered(&places), points_at(&places));
+        while let Some(last) = rest.len().checked_sub(1) {
+            let vertex = last * halves / 2;
+            triangulation
+                .remove(FixedVertexHandle::new(vertex))
+                .unwrap();
+            rest.swap_remove(vertex);
+            let numbers = (0..).map(FixedVertexHandle::new);
+            check(&triangulation, &rest.iter().copied().zip(numbers).collect());
+        }
+    }
+}
+
+/// A point, and what is there.
+type Located = (i64, i64, &'static str);
+
+/// Where points are, as a walk from each vertex finds it, and from a number that none has.
+const LOCATED: [(Places, &[Located]); 6] = [
+    (&[], &[(3, 4, "nothing")]),
+    (&[(3, 3)], &[(3, 3, "vertex"), (3, 4, "nothing")]),
+    (
+        &[(0, 0), (6, 0), (0, 6)],
+        &[
+            (1, 1, "face"),
+            (3, 3, "edge"),
+            (3, 0, "edge"),
+            (0, 6, "vertex"),
+            (7, 0, "outside"),
+            (-1, 7, "outside"),
+            (4, 4, "outside"),
+        ],
+    ),
+    (
+        SQUARE,
+        &[
+            (2, 2, "vertex"),
+            (4, 0, "vertex"),
+            (1, 0, "edge"),
+            (3, 3, "edge"),
+            (3, 2, "face"),
+            (5, 0, "outside"),
+            (2, -1, "outside"),
+        ],
+    ),
+    (
+        &[(0, 0), (6, 6), (2, 2)],
+        &[
+            (2, 2, "vertex"),
+            (6, 6, "vertex"),
+            (1, 1, "edge"),
+            (5, 5, "edge"),
+            (7, 7, "outside"),
+            (-1, -1, "outside"),
+            (1, 2, "outside"),
+            (8, 7, "outside"),
+        ],
+    ),
+    (
+        &[(0, 6), (0, 0), (0, 2)],
+        &[
+            (0, 0, "vertex"),
+            (0, 1, "edge"),
+            (0, 5, "edge"),
+            (0, 7, "outside"),
+            (0, -7, "outside"),
+            (1, 3, "outside"),
+        ],
+    ),
+];
+
+fn kind(position: Position) -> &'static str {
+    match position {
+        Position::OnFace(_) => "face",
+        Position::OnEdge(_) => "edge",
+        Position::OnVertex(_) => "vertex",
+        Position::OutsideOfConvexHull(_) => "outside",
+        Position::NoTriangulation => "nothing",
+    }
+}
+
+#[test]
+fn positions_are_told_apart() {
+    for (places, asked) in LOCATED {
+        let triangulation = numbered(places);
+        for (x, y, wanted) in asked {
+            let point = Point2::new(*x, *y);
+            assert_eq!(kind(triangulation.locate(point)), *wanted, "{point:?}");
+            check_point(&triangulation, point);
+            for hint in (0..10).map(FixedVertexHandle::new) {
+                let found = triangulation.locate_with_hint(point, hint);
+                assert_eq!(kind(found), *wanted, "{point:?} from {hint:?}");
+            }
+        }
+    }
+}
+
+/// A point, and the vertex that is nearest to it.
+type Asked = (i64, i64, usize);
+
+/// Points, and what is asked of them.
+const NEAREST: [(Places, &[Asked]); 4] = [
+    (&[(3, 3)], &[(3, 3, 0), (-1000, 7, 0)]),
+    // A line, as seen from beside it and from beyond its ends.
+    (
+        &[(0, 0), (6, 6), (2, 2)],
+        &[(1, 2, 2), (-5, 4, 0), (4, 5, 1), (9, 2, 1), (-7, -7, 0)],
+    ),
+    (
+        &[(0, 0), (6, 0), (0, 6)],
+        &[(100, -3, 1), (-9, -9, 0), (2, 5, 2), (4, 1, 1)],
+    ),
+    (
+        &[(-FAR, -FAR), (FAR, -FAR), (FAR, FAR), (-FAR, FAR)],
+        &[(FAR, FAR - 1, 2), (-1, -1, 0), (1, -1, 1), (-FAR, 1, 3)],
+    ),
+];
+
+/// The largest coordinate.
+const FAR: i64 = 1 << 53;
+
+#[test]
+fn nearest_vertices() {
+    for (places, asked) in NEAREST {
+        let triangulation = numbered(places);
+        for (x, y, wanted) in asked {
+            let found = triangulation.nearest_vertex(Point2::new(*x, *y));
+            assert_eq!(found, Some(FixedVertexHandle::new(*wanted)), "{x} {y}");
+        }
+    }
+    assert_eq!(numbered(&[]).nearest_vertex(Point2::new(3, 4)), None);
+    // Before and after a vertex inside is removed.
+    let places: Vec<_> = (0..16).map(|it| (it / 4 * 3, it % 4 * 3)).collect();
+    let mut triangulation = numbered(&places);
+    for _ in 0..2 {
+        for place in 0..18 * 18 {
+            check_point(&triangulation, Point2::new(place / 18 - 4, place % 18 - 4));
+        }
+        triangulation.remove(FixedVertexHandle::new(5)).unwrap();
+    }
+}
+
+/// So far from three points, the others share the upper bits of their places.
+#[test]
+fn a_cluster_far_from_others() {
+    let mut points = points_at(&[(FAR, 0), (0, FAR), (FAR, FAR)]);
+    points.extend((0..77).map(|it| Point2::new(it % 7, it % 11)));
+    let triangulation = DelaunayTriangulation::bulk_load(points.clone()).unwrap();
+    assert_eq!(triangulation.num_vertices(), 80);
+    for point in points {
+        let vertex = triangulation.locate_vertex(point).unwrap();
+        assert_eq!(vertex.position(), point);
+    }
+}
+
 /// A value that counts its drops.
 struct Counted(Point2, Rc<Cell<u32>>);
 

@@ -39,7 +39,11 @@ fn links_there_and_back() {
     assert!(made.vertices().map(|vertex| *vertex.data()).eq('a'..='d'));
     assert!(made.faces().map(|face| *face.data()).eq([9, 8, 7, 6]));
     assert!(made.directed_edges().all(|edge| *edge.data() == 0));
-    assert_eq!(made.vertex(v(3)).out_edge().unwrap().fix(), e(11));
+    // It is anchored at the last half edges.
+    let anchors = made.fixed_vertices().map(|it| made.vertex_out_edge(it));
+    assert!(anchors.eq([6, 10, 8, 11].map(|edge| Some(e(edge)))));
+    let anchors = made.fixed_faces().map(|it| made.face_adjacent_edge(it));
+    assert!(anchors.eq([4, 11, 8, 10].map(|edge| Some(e(edge)))));
 }
 
 #[test]
@@ -77,6 +81,46 @@ fn faulty_links() {
         fault(LinksFault::TwoLeadTo(led)).to_string(),
         format!("no mesh has these links: two half edges lead to half edge {led}")
     );
+}
+
+/// Half edges by the one after each, its origin and its face.
+fn linked(next: &[usize], origin: &[usize], face: &[usize]) -> Vec<HalfEdgeEntry> {
+    let entries = next.iter().zip(origin).zip(face);
+    entries
+        .map(|((next, origin), face)| HalfEdgeEntry {
+            next: e(*next),
+            prev: e(0), // which isn't read
+            origin: v(*origin),
+            face: FixedFaceHandle::new(*face),
+        })
+        .collect()
+}
+
+#[test]
+fn links_of_no_mesh() {
+    let triangle = linked(
+        &[2, 5, 4, 1, 0, 3],
+        &[0, 1, 1, 2, 2, 0],
+        &[0, 1, 0, 1, 0, 1],
+    );
+    let fault = |reason| LinksError::Links(reason);
+    assert_eq!(
+        refused(&triangle, 2, 2),
+        fault(LinksFault::OriginOutOfRange(3))
+    );
+    assert_eq!(refused(&triangle, 3, 3), fault(LinksFault::UnusedFace(2)));
+    // Face 0 lies on one side of an edge only, but its half edge comes back to itself.
+    let apart = linked(&[0, 1], &[0, 1], &[0, 1]);
+    assert_eq!(refused(&apart, 2, 2), fault(LinksFault::Apart(0)));
+    // A torus of four squares.
+    let torus = linked(
+        &[10, 13, 8, 15, 14, 9, 12, 11, 7, 0, 5, 2, 3, 4, 1, 6],
+        &[0, 1, 1, 0, 2, 3, 3, 2, 0, 2, 1, 3, 2, 0, 3, 1],
+        &[0, 2, 1, 3, 2, 0, 3, 1, 1, 0, 0, 1, 3, 2, 2, 3],
+    );
+    assert_eq!(refused(&torus, 4, 4), fault(LinksFault::NotSphere(1)));
+    let vertices = from_links::<_, (), (), _>(&[], vec![0; 3], vec![7]).unwrap();
+    assert_eq!((vertices.num_vertices(), vertices.num_faces()), (3, 1));
 }
 
 #[test]

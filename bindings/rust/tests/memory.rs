@@ -1,22 +1,26 @@
-//! Each request of the values for memory is refused in turn: the call says so, gives back what it
-//! was given, and the mesh is as it was.
+//! Each request for memory is refused in turn, first those of the values alone, then those of the
+//! library too: the call says so, gives back what it was given, and the mesh is as it was.
 
 mod common;
 
 use common::*;
 use dcel::delaunay::{
-    ConstrainedDelaunayTriangulation, ConstraintError, DelaunayTriangulation, InsertionError,
-    Point2, RefinementParameters,
+    ConstrainedDelaunayTriangulation, ConstraintError, DelaunayTriangulation, InsertionError, Kind,
+    Point2, RefinementParameters, Triangulation,
 };
 use dcel::operations::*;
 use dcel::{Dcel, Refusal};
 use std::alloc::{GlobalAlloc, Layout, System};
 use std::cell::Cell;
+use std::ffi::c_void;
 use std::ptr;
 
 thread_local! {
-    /// How many requests of this thread are still met.
+    /// How many requests of this thread's values are still met.
     static LEFT: Cell<usize> = const { Cell::new(usize::MAX) };
+
+    /// How many requests of this thread are still met, with those of the library.
+    static LEFT_OF_ALL: Cell<usize> = const { Cell::new(usize::MAX) };
 }
 
 struct Refusing;
@@ -24,18 +28,16 @@ struct Refusing;
 #[global_allocator]
 static REFUSING: Refusing = Refusing;
 
-fn is_met() -> bool {
-    LEFT.with(|left| {
-        let met = left.get();
-        left.set(met.saturating_sub(1));
-        met > 0
-    })
+fn is_met(left: &Cell<usize>) -> bool {
+    let met = left.get();
+    left.set(met.saturating_sub(1));
+    met > 0
 }
 
 // SAFETY: what is met is the system's, and nothing is what a refused request gets.
 unsafe impl GlobalAlloc for Refusing {
     unsafe fn alloc(&self, layout: Layout) -> *mut u8 {
-        if is_met() {
+        if LEFT.with(is_met) {
             unsafe { System.alloc(layout) }
         } else {
             ptr::null_mut()
@@ -47,7 +49,7 @@ unsafe impl GlobalAlloc for Refusing {
     }
 
     unsafe fn realloc(&self, block: *mut u8, layout: Layout, size: usize) -> *mut u8 {
-        if is_met() {
+        if LEFT.with(is_met) {
             unsafe { System.realloc(block, layout, size) }
         } else {
             ptr::null_mut()
@@ -55,11 +57,48 @@ unsafe impl GlobalAlloc for Refusing {
     }
 }
 
-/// Calls with so many requests met.
+unsafe extern "C" {
+    fn __libc_malloc(size: usize) -> *mut c_void;
+    fn __libc_realloc(block: *mut c_void, size: usize) -> *mut c_void;
+}
+
+/// What the library asks for memory, as the system does for values.
+#[unsafe(no_mangle)]
+extern "C" fn malloc(size: usize) -> *mut c_void {
+    if LEFT_OF_ALL.with(is_met) {
+        // SAFETY: it is what `malloc` is where nothing takes its place.
+        unsafe { __libc_malloc(size) }
+    } else {
+        ptr::null_mut()
+    }
+}
+
+/// # Safety
+///
+/// That of C's.
+#[unsafe(no_mangle)]
+unsafe extern "C" fn realloc(block: *mut c_void, size: usize) -> *mut c_void {
+    if LEFT_OF_ALL.with(is_met) {
+        // SAFETY: as above.
+        unsafe { __libc_realloc(block, size) }
+    } else {
+        ptr::null_mut()
+    }
+}
+
+/// Calls with so many requests of values met.
 fn with_memory<T>(met: usize, call: impl FnOnce() -> T) -> T {
     LEFT.set(met);
     let result = call();
     LEFT.set(usize::MAX);
+    result
+}
+
+/// Calls with so many requests met, of values and of the library.
+fn with_memory_for_all<T>(met: usize, call: impl FnOnce() -> T) -> T {
+    LEFT_OF_ALL.set(met);
+    let result = call();
+    LEFT_OF_ALL.set(usize::MAX);
     result
 }
 
@@ -121,6 +160,25 @@ fn a_triangle() {
         },
     );
     assert_eq!(needed, 1);
+    let needed = sweep(
+        |met| with_memory_for_all(met, || new_triangle::<_, (), (), ()>([7, 8, 9])),
+        |refused| {
+            assert_eq!(
+                (refused.why, refused.back),
+                (Refusal::OutOfMemory, [7, 8, 9])
+            )
+        },
+    );
+    assert!(needed > 2);
+}
+
+#[test]
+fn a_value_that_is_taken_out() {
+    let mut dcel: Dcel<_> = new_triangle([7, 8, 9]).unwrap();
+    append_unconnected_vertex(&mut dcel, 10).unwrap();
+    append_unconnected_vertex(&mut dcel, 11).unwrap();
+    let removed = with_memory_for_all(0, || swap_remove_vertex(&mut dcel, v(3)));
+    assert_eq!(removed.map(|it| it.removed_vertex), Ok(10));
 }
 
 #[test]
@@ -219,6 +277,60 @@ fn points() {
         |refused| assert_eq!(refused, Refusal::OutOfMemory),
     );
     assert_eq!(needed, 2);
+}
+
+/// Four triangles around vertex 4, without room to spare.
+fn around<K: Kind>(standing: &Triangulation<Point2, K>) -> Triangulation<Point2, K> {
+    let copy = standing.clone();
+    assert_eq!((copy.num_vertices(), copy.num_inner_faces()), (5, 4));
+    copy
+}
+
+fn points_removed<K: Kind>(standing: &Triangulation<Point2, K>) {
+    let middle = standing.vertex_data(v(4));
+    let removed = sweep(
+        |met| {
+            let mut triangulation = around(standing);
+            let removed = with_memory_for_all(met, || triangulation.remove(v(4)));
+            let left = 5 - usize::from(removed.is_ok());
+            assert_eq!(triangulation.num_vertices(), left);
+            assert_eq!(triangulation.vertices().count(), left);
+            removed.inspect(|it| assert_eq!(it.removed_vertex, *middle))
+        },
+        |refused| assert_eq!(refused, Refusal::OutOfMemory),
+    );
+    let located = sweep(
+        |met| {
+            let mut triangulation = around(standing);
+            let removed = with_memory_for_all(met, || triangulation.locate_and_remove(*middle));
+            assert_eq!(
+                triangulation.vertices().count(),
+                5 - usize::from(removed.is_ok())
+            );
+            removed.inspect(|it| assert_eq!(*it, Some(*middle)))
+        },
+        |refused| assert_eq!(refused, Refusal::OutOfMemory),
+    );
+    assert!(removed > 0 && located == removed);
+    let mut triangulation = around(standing);
+    for nowhere in [Point2::new(7, 7), Point2::new(1 << 60, 0)] {
+        let removed = with_memory_for_all(0, || triangulation.locate_and_remove(nowhere));
+        assert_eq!(removed, Ok(None));
+    }
+}
+
+#[test]
+fn a_point_that_is_removed() {
+    let points = [(0, 0), (4, 0), (4, 4), (0, 4), (2, 1)].map(|(x, y)| Point2::new(x, y));
+    let mut standing = DelaunayTriangulation::new().unwrap();
+    let mut constrained = ConstrainedDelaunayTriangulation::new().unwrap();
+    for point in points {
+        standing.insert(point).unwrap();
+        constrained.insert(point).unwrap();
+    }
+    constrained.add_constraint(v(0), v(4)).unwrap();
+    points_removed(&standing);
+    points_removed(&constrained);
 }
 
 #[test]

@@ -466,3 +466,41 @@ fn removed(dcel: &mut Mesh, vertex: FixedVertexHandle) -> bool {
     assert_eq!(tags(dcel), before);
     true
 }
+
+/// All data of a mesh: of vertices, half edges, edges and faces, one after another.
+fn all_data(dcel: &Dcel<i64, i64, i64, i64>) -> Vec<i64> {
+    let vertices = dcel.vertices().map(|it| *it.data());
+    let half_edges = dcel.directed_edges().map(|it| *it.data());
+    let edges = dcel.undirected_edges().map(|it| *it.data());
+    let faces = dcel.faces().map(|it| *it.data());
+    vertices
+        .chain(half_edges)
+        .chain(edges)
+        .chain(faces)
+        .collect()
+}
+
+#[test]
+fn a_write_changes_one_datum() {
+    let mut dcel: Dcel<i64, i64, i64, i64> = new_triangle([0, 1, 2]).unwrap();
+    let vertex = append_unconnected_vertex(&mut dcel, 3).unwrap();
+    insert_into_triangle(&mut dcel, vertex, f(1)).unwrap();
+    let (links, mut wanted) = (dcel.links(), all_data(&dcel));
+    assert_eq!(wanted, [vec![0, 1, 2, 3], vec![0; 22]].concat());
+    for place in 0..26 {
+        let datum = 100 + place as i64;
+        match place {
+            0..4 => *dcel.vertex_data_mut(v(place)) = datum,
+            4..16 => *dcel.directed_edge_data_mut(e(place - 4)) = datum,
+            16..22 => *dcel.undirected_edge_data_mut(u(place - 16)) = datum,
+            22 => *dcel.face_data_mut(OUTER_FACE) = datum,
+            _ => *dcel.face_data_mut(f(place - 22)) = datum,
+        }
+        wanted[place] = datum;
+        assert_eq!(all_data(&dcel), wanted, "{datum}");
+    }
+    dcel.update_vertex(v(3), -103);
+    wanted[3] = -103;
+    assert_eq!(all_data(&dcel), wanted);
+    assert_eq!(dcel.links(), links);
+}

@@ -5,8 +5,7 @@
 
 use crate::checks::same;
 use crate::meshes::{Mesh, NO_LIMIT};
-use crate::require;
-use dcel_commands::commands::{Command, Handed, Refusal, Reply, Request, apply, read};
+use dcel_commands::commands::{Command, Handed, Refusal, Refused, Reply, Request, apply, read};
 use spade_dcel::operations::{IsolateVertexResult, new};
 use std::alloc::Allocator;
 use std::test::Fail;
@@ -14,14 +13,8 @@ use std::test::Fail;
 /// An edge from vertex 0 to vertex 1.
 pub const FIRST_EDGE: &str = "append 0\nappend 1\nsetup 0 1";
 
-/// The line 0, 2, 1, by a split.
-pub const SPLIT_EDGE: &str = "append 0\nappend 1\nsetup 0 1\nappend 2\nline 0 2";
-
 /// The line 2, 0, 1, 3.
 pub const LINE: &str = "append 0\nappend 1\nsetup 0 1\nappend 2\nextend 0 2\nappend 3\nextend 1 3";
-
-/// A triangle, and vertex 3 beside it.
-pub const TRIANGLE_AND_VERTEX: &str = "triangle 0 1 2\nappend 3";
 
 /// A triangle that vertex 3 cuts into three.
 pub const CUT: &str = "triangle 0 1 2\nappend 3\ninsert 3 1";
@@ -55,26 +48,6 @@ pub fn carried_by<A: Allocator>(command: &Command<i64, A>) -> Handed<i64> {
     }
 }
 
-/// Has the mesh carry out the command under the limit.
-///
-/// Returns why it was refused, after checking that the data which it carried have come back, and
-/// None if it was carried out.
-pub fn refusal_of<A: Allocator + Clone, B: Allocator + Copy>(
-    dcel: &mut Mesh<A>,
-    command: Command<i64, B>,
-    limit: usize,
-) -> Result<Option<Refusal>, Fail> {
-    require!(limit <= NO_LIMIT);
-    let carried = carried_by(&command);
-    match apply(dcel, command, limit) {
-        Ok(_) => Ok(None),
-        Err(refused) => {
-            same(refused.back, carried, "the data that come back")?;
-            Ok(Some(refused.why))
-        }
-    }
-}
-
 /// Has the mesh carry out the command, and returns whether there was memory.
 ///
 /// Without memory the data that the command carried have come back. Any other refusal fails the
@@ -83,10 +56,12 @@ pub fn has_memory<A: Allocator + Clone, B: Allocator + Copy>(
     dcel: &mut Mesh<A>,
     command: Command<i64, B>,
 ) -> Result<bool, Fail> {
-    match refusal_of(dcel, command, NO_LIMIT)? {
-        None => Ok(true),
-        Some(why) => {
-            same(why, Refusal::OutOfMemory, "why a command was refused")?;
+    let back = carried_by(&command);
+    match apply(dcel, command, NO_LIMIT) {
+        Ok(_) => Ok(true),
+        Err(refused) => {
+            let why = Refusal::OutOfMemory;
+            same(refused, Refused { why, back }, "the refusal")?;
             Ok(false)
         }
     }
@@ -137,19 +112,4 @@ pub fn opened<A: Allocator + Clone, B: Allocator + Copy>(
         Ok(Reply::Opened(opened)) => Ok(opened),
         _ => Err(Fail::new(format_args!("no removal is opened: {line}"))),
     }
-}
-
-/// Checks that the mesh refuses the command of a line under the limit by this name.
-///
-/// The data that it carries have come back then.
-pub fn check_refused<A: Allocator + Clone, B: Allocator + Copy>(
-    dcel: &mut Mesh<A>,
-    line: &str,
-    limit: usize,
-    why: Refusal,
-    memory: B,
-) -> Result<(), Fail> {
-    let command = read_command(line, memory)?;
-    let found = refusal_of(dcel, command, limit)?;
-    same(found, Some(why), format_args!("the refusal of {line}"))
 }

@@ -1,39 +1,17 @@
-//! Lines, the replies to them, and the outcome of a run over known lines.
+//! The outcome of a run over known lines.
 
 ghost use Rattle.std.specs.Prelude.{◌≤◌, ◌^◌};
 
-use crate::checks::same;
 use crate::meshes::NO_LIMIT;
-use crate::require;
 use dcel_commands::commands::{RunFault, StdSink, StdSource, run};
 use std::alloc::{AllocError, Allocator, Global};
 use std::io;
 use std::io::{Error, ErrorKind, Read, Write};
-use std::test::Fail;
-
-/// Lines with their replies.
-pub type Talk = &'static [(&'static str, &'static str)];
-
-/// A triangle.
-pub const TRIANGLE: [(&str, &str); 1] = [("triangle 0 1 2", "ok")];
 
 /// Adds a line and its line feed.
 pub fn push_line(text: &mut Vec<u8>, line: &str) -> Result<(), AllocError> {
     text.extend_from_slice(line.as_bytes())?;
     text.push(b'\n')?;
-    Ok(())
-}
-
-/// Adds the lines and their replies.
-pub fn push_talk(
-    lines: &mut Vec<u8>,
-    replies: &mut Vec<u8>,
-    talk: &[(&str, &str)],
-) -> Result<(), AllocError> {
-    for (line, reply) in talk {
-        push_line(lines, line)?;
-        push_line(replies, reply)?;
-    }
     Ok(())
 }
 
@@ -155,24 +133,4 @@ fn run_in<'a, A: Allocator + Clone>(
         has_read: giver.calls < calls,
         written: taker.bytes,
     }
-}
-
-/// Checks the replies to the lines in reads of one, three and all bytes.
-pub fn check_text_answered(
-    alloc: Global,
-    limit: usize,
-    lines: &[u8],
-    replies: &[u8],
-) -> Result<(), Fail> {
-    require!(limit <= NO_LIMIT);
-    for chunk in [1, 3, PLENTY] {
-        let (ended, written) = answers(alloc, limit, lines, chunk, PLENTY, PLENTY);
-        ended?;
-        same(
-            written.as_slice(),
-            replies,
-            format_args!("replies in reads of {chunk}"),
-        )?;
-    }
-    Ok(())
 }

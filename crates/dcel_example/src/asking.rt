@@ -41,9 +41,13 @@ fn carry_out<V: Drop>(dcel: &mut Dcel<V>, command: Command<V>) -> &'static str {
 /// Shows each way with a half edge that is there, and with one that isn't.
 pub fn show(rt: &impl Print, alloc: Global) -> io::Result<()> {
     let mut dcel = triangle(alloc)?;
-    println!(rt; "append: {}", carry_out(&mut dcel, Command::Append("d")))?;
+    show_ways(rt, &mut dcel)
+}
+
+fn show_ways(rt: &impl Print, dcel: &mut Dcel<&'static str>) -> io::Result<()> {
+    println!(rt; "append: {}", carry_out(dcel, Command::Append("d")))?;
     for number in [1, 99] {
-        show_at(rt, &mut dcel, FixedDirectedEdgeHandle::new(number))?;
+        show_at(rt, dcel, FixedDirectedEdgeHandle::new(number))?;
     }
     Ok(())
 }

@@ -2,7 +2,8 @@
 
 use spade_dcel::dcel::Dcel;
 use spade_dcel::handles::{
-    FixedFaceHandle, FixedUndirectedEdgeHandle, FixedVertexHandle, InnerTag,
+    FixedDirectedEdgeHandle, FixedFaceHandle, FixedUndirectedEdgeHandle, FixedVertexHandle,
+    InnerTag,
 };
 use spade_dcel::operations::{
     Room, append_unconnected_vertex, cleanup_isolated_vertex, flip_cw, insert_into_triangle,
@@ -14,14 +15,18 @@ use std::io;
 /// Edits a triangle, and shows what is taken out of it and what is left.
 pub fn show(rt: &impl Print, alloc: Global) -> io::Result<()> {
     let mut dcel = triangle(alloc)?;
+    show_edits(rt, &mut dcel, alloc)
+}
+
+fn show_edits(rt: &impl Print, dcel: &mut Dcel<&'static str>, alloc: Global) -> io::Result<()> {
     let face = FixedFaceHandle::new(1); // face 0 is the outer one
-    put_into(&mut dcel, "d", face)?;
-    put_into(&mut dcel, "e", face)?;
+    put_into(dcel, "d", face)?;
+    put_into(dcel, "e", face)?;
     let edge = FixedUndirectedEdgeHandle::new(3); // from "a" to "d", beside "e"
     if dcel.can_flip(edge) {
-        flip_cw(&mut dcel, edge);
+        flip_cw(dcel, edge);
     }
-    let taken = take_out(&mut dcel, FixedVertexHandle::new(4), alloc)?;
+    let taken = take_out(dcel, FixedVertexHandle::new(4), alloc)?;
     let left = dcel.num_vertices();
     println!(rt; "taken out: {taken:?}, vertices left: {left}")
 }
@@ -49,6 +54,21 @@ pub fn put_into<V: Drop>(
     Ok(())
 }
 
+/// Lists the half edges around the triangles of a vertex, clockwise.
+fn border_of<V>(
+    dcel: &Dcel<V>,
+    center: FixedVertexHandle,
+    alloc: Global,
+) -> Result<Vec<FixedDirectedEdgeHandle>, AllocError> {
+    let mut border = Vec::new(alloc);
+    if let Some(vertex) = dcel.get_vertex(center) {
+        for edge in vertex.out_edges().rev() {
+            border.push(edge.next().fix())?;
+        }
+    }
+    Ok(border)
+}
+
 /// Takes out a vertex inside triangles, fills the hole, and returns the vertex's datum, or None if
 /// it doesn't lie so.
 fn take_out<V: Drop>(
@@ -56,12 +76,7 @@ fn take_out<V: Drop>(
     center: FixedVertexHandle,
     alloc: Global,
 ) -> Result<Option<V>, AllocError> {
-    let mut border = Vec::new(alloc);
-    if let Some(vertex) = dcel.get_vertex(center) {
-        for edge in vertex.out_edges().rev() {
-            border.push(edge.next().fix())?;
-        }
-    }
+    let border = border_of(dcel, center, alloc)?;
     let room = Room::filling(border.len());
     if !dcel.can_isolate_vertex_and_fill_hole(&border, center) || !dcel.has_room_for(room) {
         return Ok(None);

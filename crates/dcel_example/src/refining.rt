@@ -15,15 +15,23 @@ pub fn refine<V: Copy + Drop>(
     datum: V,
     alloc: Global,
 ) -> Result<(), AllocError> {
-    let faces = inner_faces(dcel, alloc)?;
     let edges = inner_edges(dcel, alloc)?;
-    for &face in &faces {
-        put_into(dcel, datum, face)?;
-    }
+    put_into_each(dcel, datum, alloc)?;
     for &edge in &edges {
         if dcel.can_flip(edge) {
             flip_cw(dcel, edge);
         }
+    }
+    Ok(())
+}
+
+fn put_into_each<V: Copy + Drop>(
+    dcel: &mut Dcel<V>,
+    datum: V,
+    alloc: Global,
+) -> Result<(), AllocError> {
+    for &face in inner_faces(dcel, alloc)?.iter() {
+        put_into(dcel, datum, face)?;
     }
     Ok(())
 }
@@ -56,9 +64,13 @@ fn inner_edges<V>(
 /// Returns a triangle made finer twice: of a, b and c, with a d in the middle of three e.
 pub fn fine_triangle(alloc: Global) -> Result<Dcel<&'static str>, AllocError> {
     let mut dcel = triangle(alloc)?;
-    refine(&mut dcel, "d", alloc)?;
-    refine(&mut dcel, "e", alloc)?;
+    refine_twice(&mut dcel, alloc)?;
     Ok(dcel)
+}
+
+fn refine_twice(dcel: &mut Dcel<&'static str>, alloc: Global) -> Result<(), AllocError> {
+    refine(dcel, "d", alloc)?;
+    refine(dcel, "e", alloc)
 }
 
 /// Shows how large a triangle made finer twice is.

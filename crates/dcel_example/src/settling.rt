@@ -111,18 +111,27 @@ const POINTS: [Point; 6] = [
 /// Puts each of the inner points into the triangle that it lies in.
 fn triangulated(alloc: Global) -> Result<Dcel<&'static str>, AllocError> {
     let mut dcel = triangle(alloc)?;
-    for (datum, face) in [("d", 1), ("e", 3), ("f", 3)] {
-        put_into(&mut dcel, datum, FixedFaceHandle::new(face))?;
-    }
+    put_points(&mut dcel)?;
     Ok(dcel)
+}
+
+fn put_points(dcel: &mut Dcel<&'static str>) -> Result<(), AllocError> {
+    for (datum, face) in [("d", 1), ("e", 3), ("f", 3)] {
+        put_into(dcel, datum, FixedFaceHandle::new(face))?;
+    }
+    Ok(())
 }
 
 /// Shows the edges of a triangulation before and after.
 pub fn show(rt: &impl Print, alloc: Global) -> io::Result<()> {
     let mut dcel = triangulated(alloc)?;
-    show_edges(rt, "before", &dcel)?;
-    let is_settled = settle(&mut dcel, |corners| is_longer(&POINTS, corners), 100, alloc)?;
-    show_edges(rt, if is_settled { "settled" } else { "stopped" }, &dcel)
+    show_settling(rt, &mut dcel, alloc)
+}
+
+fn show_settling(rt: &impl Print, dcel: &mut Dcel<&'static str>, alloc: Global) -> io::Result<()> {
+    show_edges(rt, "before", dcel)?;
+    let is_settled = settle(dcel, |corners| is_longer(&POINTS, corners), 100, alloc)?;
+    show_edges(rt, if is_settled { "settled" } else { "stopped" }, dcel)
 }
 
 fn show_edges(rt: &impl Print, title: &str, dcel: &Dcel<&'static str>) -> io::Result<()> {

@@ -56,11 +56,11 @@ fn reach_neighbors<V, DE, UE, F>(
 /// Shows the lengths of the ways between all vertices of a mesh, one of which stands alone.
 pub fn show(rt: &impl Print, alloc: Global) -> io::Result<()> {
     let mut dcel = fine_triangle(alloc)?;
-    append(&mut dcel, "f")?;
-    show_ways(rt, &dcel, alloc)
+    show_ways(rt, &mut dcel, alloc)
 }
 
-fn show_ways(rt: &impl Print, dcel: &Dcel<&'static str>, alloc: Global) -> io::Result<()> {
+fn show_ways(rt: &impl Print, dcel: &mut Dcel<&'static str>, alloc: Global) -> io::Result<()> {
+    append(dcel, "f")?;
     for start in dcel.live_vertices() {
         print!(rt; "ways from {} {}:", start.index(), start.data())?;
         show_steps(rt, dcel, start.fix(), alloc)?;

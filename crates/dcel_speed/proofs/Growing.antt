@@ -95,7 +95,7 @@ module _ {V DE UE F : Type 0} where
   }
 
   -- an appended vertex is live and has no edge
-  pub appended_live : (m n : Mesh V DE UE F) (datum : V) (v : ℕ) → IsMesh m → n ≡ vertex_appended m datum → v ≡ m.shape.vertices
+  appended_live : (m n : Mesh V DE UE F) (datum : V) (v : ℕ) → IsMesh m → n ≡ vertex_appended m datum → v ≡ m.shape.vertices
       → vertex_is_live n.shape v ≡ true
   appended_live m n datum v mesh is last =
       rw (is, last)

@@ -4,7 +4,7 @@ use Rattle.std.proofs.lemmas.Bool.{cases_eq, cases_lt}
 use Rattle.std.proofs.lemmas.List.{get_or-append-add, get_or_append_left}
 use Rattle.dcel_maps.specs.edits.DefaultData.{AddsEdge}
 use Rattle.dcel_maps.specs.Conditions.{IsLineEnd, IsUnconnected}
-use Rattle.dcel_maps.specs.edits.Create.{first_edge_added, vertex_appended}
+use Rattle.dcel_maps.specs.edits.Create.{vertex_appended}
 use Rattle.dcel_maps.specs.edits.Line.{line_extended}
 use Rattle.dcel_maps.specs.Removals.{gives_up_edge, gives_up_vertex}
 use Rattle.dcel_maps.specs.Shapes.{Shape, Mesh, IsMesh, IsLive, origin_of, vertex_is_live}
@@ -17,13 +17,6 @@ still_live s n v more live =
     is_live-from (gives_up_vertex s.removal) n v (omega (arith, parts.0)) parts.1
 
 module _ {V DE UE F : Type 0} (m : Mesh V DE UE F) where
-  -- an appended vertex adds no edge
-  pub vertices_after : (n : Mesh V DE UE F) (datum : V) → n ≡ vertex_appended m datum → n.shape.vertices ≡ m.shape.vertices + 1
-  vertices_after n datum is = ap (λ (u : Mesh V DE UE F). u.shape.vertices) is
-
-  pub edges_after : (n : Mesh V DE UE F) (datum : V) → n ≡ vertex_appended m datum → n.shape.edges ≡ m.shape.edges
-  edges_after n datum is = ap (λ (u : Mesh V DE UE F). u.shape.edges) is
-
   -- an appended vertex leaves live what is live, and an end an end
   appended_end : (datum : V) (end : ℕ) → IsLineEnd m.shape end → IsLineEnd (vertex_appended m datum).shape end
   appended_end datum end line = record {
@@ -31,43 +24,12 @@ module _ {V DE UE F : Type 0} (m : Mesh V DE UE F) where
     one = (line.one.0, record { edge = record { live = line.one.1.out; start = line.one.1.from }; only = line.one.1.only });
   }
 
-  pub still_live_after : (n : Mesh V DE UE F) (datum : V) (v : ℕ) → n ≡ vertex_appended m datum → vertex_is_live m.shape v ≡ true
-      → vertex_is_live n.shape v ≡ true
-  still_live_after n datum v is live = rw is (still_live m.shape (m.shape.vertices + 1) v (omega arith) live)
-
   pub end_after : (n : Mesh V DE UE F) (datum : V) (end : ℕ) → n ≡ vertex_appended m datum → IsLineEnd m.shape end → IsLineEnd n.shape end
   end_after n datum end is line =
       let P : Mesh V DE UE F → Type 0 = λ u. IsLineEnd u.shape end in
       subst P (sym is) (appended_end datum end line)
 
   module _ (mesh : IsMesh m) where
-    -- the first edge ends at its second vertex
-    first_end : (a b : ℕ) (halves : List DE) (edges : List UE) → m.shape.edges ≡ 0 → vertex_is_live m.shape b ≡ true → a ≢ b
-        → IsLineEnd (first_edge_added m a b halves edges).shape b
-    first_end a b halves edges none live apart =
-        let g = gives_up_edge m.shape.removal in
-        let kept : g 0 ≡ false = gives_up_edge-past mesh.sized.within 0 (omega (arith, none)) in
-        let only : (k : ℕ) → IsLive (first_edge_added m a b halves edges).shape k
-        → slice_index (a ∷ b ∷ []) k ≡ b → k ≡ 1 =
-        λ k k_live starts.
-        let below = (is_live-parts g 1 (k / 2) k_live).0 in
-        elim (cases_eq k 1) [
-          | inl same ↦ same
-          | inr other ↦
-              let first : k ≡ 0 = omega (arith, below) in
-              absurd (apart (subst (λ z. slice_index (a ∷ b ∷ []) z ≡ b) first starts))
-        ] in
-        record {
-          live = live;
-          one = (1, record { edge = record { live = is_live-from g 1 0 (omega arith) kept; start = refl }; only = only });
-        }
-
-    pub first_edge_end : {is_half : DE → Type 0} {is_edge : UE → Type 0} (p : Mesh V DE UE F) (a b : ℕ) → m.shape.edges ≡ 0
-        → vertex_is_live m.shape b ≡ true → a ≢ b → AddsEdge is_half is_edge p (first_edge_added m a b) → IsLineEnd p.shape b
-    first_edge_end p a b none live apart adds =
-        let P : Mesh V DE UE F → Type 0 = λ u. IsLineEnd u.shape b in
-        subst P (sym adds.is) (first_end a b adds.directed_data adds.undirected_data none live apart)
-
     -- the new vertex is the end of the longer line
     module _ (end tip : ℕ) (line : IsLineEnd m.shape end) (bare : IsUnconnected m.shape tip) where
       origin_old : (k : ℕ) → k < 2 * m.shape.edges → slice_index (m.shape.origins ++ tip ∷ end ∷ []) k ≡ origin_of m.shape k

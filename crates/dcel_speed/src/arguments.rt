@@ -1,7 +1,7 @@
 //! The words that the program is started with.
 
 use crate::fault::Fault;
-use crate::workloads::Workload;
+use crate::workloads::{ALL, Workload};
 use std::alloc::Global;
 use std::env;
 use std::rt::Env;
@@ -15,7 +15,8 @@ const ALL_SIZES: &str = "1000,100000,1000000";
 /// What to run, and what to print.
 #[derive(Drop)]
 pub struct Arguments {
-    pub workloads: Vec<Workload>,
+    /// The workloads with their names.
+    pub workloads: Vec<(&'static str, Workload)>,
     pub sizes: Vec<u32>,
 
     /// Whether half edges, edges and faces have data too.
@@ -61,10 +62,20 @@ impl Arguments {
     }
 }
 
+/// Returns the workload with this name, and the name.
+fn parse(name: &str) -> Option<(&'static str, Workload)> {
+    for workload in &ALL {
+        if workload.0 == name {
+            return Some(*workload);
+        }
+    }
+    None
+}
+
 /// Reads a list of workloads, separated by commas.
-fn workloads_of(alloc: Global, list: &str) -> Result<Vec<Workload>, Fault> {
+fn workloads_of(alloc: Global, list: &str) -> Result<Vec<(&'static str, Workload)>, Fault> {
     list.split(',')
-        .map(|name| Workload::parse(name).ok_or(Fault::BadArguments))
+        .map(|name| parse(name).ok_or(Fault::BadArguments))
         .try_collect(alloc)
 }
 

@@ -6,7 +6,7 @@ use std::fmt;
 use std::io::{self, ErrorKind};
 
 /// Why a mesh was not built. It fits a register, so returning one costs an edit nothing.
-#[derive(Clone, Copy, Debug)]
+#[derive(Clone, Copy)]
 pub enum BuildError {
     /// There is no memory.
     NoMemory,
@@ -14,7 +14,7 @@ pub enum BuildError {
     /// The size asks for more elements than there are numbers.
     NoRoom,
 
-    /// None of the edges drawn can be split.
+    /// None of the edges drawn can be split, or there is an edge before the first one.
     NoEdge,
 }
 
@@ -37,7 +37,7 @@ impl<T: Drop> From<NoMemory<T>> for BuildError {
 }
 
 /// Why a run stopped before its end.
-#[derive(Debug, Drop)]
+#[derive(Drop)]
 pub enum Fault {
     /// A mesh, or a list of the arguments, was not built.
     Build(BuildError),
@@ -64,18 +64,15 @@ impl Fault {
 
 impl fmt::Display for Fault {
     fn fmt<W: fmt::Write>(&self, f: &mut fmt::Formatter<W>) -> fmt::Result {
-        match self {
-            Fault::Build(BuildError::NoMemory) => write!(f, "out of memory"),
-            Fault::Build(BuildError::NoRoom) => write!(f, "the size is too large"),
-            Fault::Build(BuildError::NoEdge) => write!(f, "no edge to split was drawn"),
-            Fault::BadArguments | Fault::Help => {
-                write!(
-                    f,
-                    "usage: dcel_speed [WORKLOAD,WORKLOAD.. [SIZE,SIZE.. [full] [checksums]]]"
-                )
-            }
-            Fault::Io(error) => write!(f, "{error}"),
+        if let Fault::Io(error) = self {
+            return write!(f, "{error}");
         }
+        f.write_str(match self {
+            Fault::Build(BuildError::NoMemory) => "out of memory",
+            Fault::Build(BuildError::NoRoom) => "the size is too large",
+            Fault::Build(BuildError::NoEdge) => "no edge to split was drawn",
+            _ => "usage: dcel_speed [WORKLOAD,WORKLOAD.. [SIZE,SIZE.. [full] [checksums]]]",
+        })
     }
 }
 

@@ -1,12 +1,13 @@
 //! Edges between triangles, flipped.
 
 use crate::fault::Fault;
-use crate::measure::time_editing;
+use crate::measure::{time_editing, timed};
 use crate::random::Random;
-use crate::workloads::{Mesh, Timed};
+use crate::workloads::{Mesh, Timed, triangulated};
 use spade_dcel::handles::FixedUndirectedEdgeHandle;
 use spade_dcel::operations::flip_cw;
 use std::rt::Clock;
+use std::time::Instant;
 
 /// Offset of its random seed from that of `insert`.
 const OWN: u64 = 3;
@@ -16,7 +17,12 @@ pub fn flip<D: Default + Drop + Clone>(
     rt: &(impl Clock + AllocGlobal),
     size: u32,
 ) -> Result<Timed, Fault> {
-    time_editing(rt, size, |dcel: &mut Mesh<D>| Some(flip_drawn(dcel, size)))
+    let built = triangulated::<D>(rt.alloc(), size)?;
+    time_editing(rt, &built, |dcel: &mut Mesh<D>| {
+        let start = Instant::now(rt);
+        let flips = flip_drawn(dcel, size);
+        timed(rt, start, dcel, u64::from(size), Some(flips))
+    })
 }
 
 /// Draws `size` edges, flips those that can be flipped, and returns how many were.

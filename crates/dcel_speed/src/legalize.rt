@@ -1,7 +1,7 @@
 //! Edges flipped until no more are wanted.
 
 use crate::fault::{BuildError, Fault};
-use crate::measure::{FEWEST_EDITING, least_of};
+use crate::measure::time_editing;
 use crate::workloads::{Mesh, Outcome, Timed, triangulated};
 use dcel_legalize::{Legalized, legalize_by_number};
 use spade_dcel::handles::FixedUndirectedEdgeHandle;
@@ -18,21 +18,19 @@ pub fn legalize<D: Default + Drop + Clone>(
     size: u32,
 ) -> Result<Timed, Fault> {
     let built = triangulated::<D>(rt.alloc(), size)?;
-    least_of(FEWEST_EDITING, || {
-        let mut dcel = built.try_clone(rt.alloc())?;
-        legalize_once(rt, &mut dcel)
-    })
+    time_editing(rt, &built, |dcel: &mut Mesh<D>| legalize_once(rt, dcel))
 }
 
 /// Times one legalization.
 fn legalize_once<D>(rt: &(impl Clock + AllocGlobal), dcel: &mut Mesh<D>) -> Result<Timed, Fault> {
     let list = all_edges(rt.alloc(), dcel)?;
-    let start = Instant::now(rt)?;
-    let flips = flip_all(dcel, list)?;
-    let elapsed = start.elapsed(rt)?;
+    let start = Instant::now(rt);
+    let flips = flip_all(dcel, list);
+    let elapsed = start?.elapsed(rt)?;
+    let checksum = flips?;
     let outcome = Outcome {
-        checksum: flips,
-        operations: looked_at(dcel, flips),
+        checksum,
+        operations: looked_at(dcel, checksum),
     };
     Ok(Timed { elapsed, outcome })
 }

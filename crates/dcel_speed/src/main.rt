@@ -26,7 +26,7 @@ mod workloads;
 use crate::arguments::Arguments;
 use crate::fault::Fault;
 use crate::measure::Line;
-use crate::workloads::{Workload, measured};
+use crate::workloads::{Timed, Workload, measured};
 use std::process::ExitCode;
 use std::rt::{Clock, Env};
 
@@ -51,31 +51,30 @@ fn main(rt: HostRuntime) -> ExitCode {
 /// Runs what the arguments name, and prints a line for each workload and size.
 fn run(rt: &(impl Env + Clock + Print + AllocGlobal)) -> Result<(), Fault> {
     let arguments = Arguments::read(rt)?;
-    for workload in &arguments.workloads {
+    for (name, workload) in &arguments.workloads {
         for size in &arguments.sizes {
-            let line = line_of(rt, &arguments, *workload, *size)?;
+            let timed = time(rt, &arguments, *workload, *size)?;
+            let line = Line {
+                name,
+                size: *size,
+                timed,
+                shows_time: arguments.shows_times,
+            };
             println!(rt; "{line}")?;
         }
     }
     Ok(())
 }
 
-/// Makes the line of a workload at a size, over the meshes that the arguments ask for.
-fn line_of(
+/// Times a workload at a size, over the meshes that the arguments ask for.
+fn time(
     rt: &(impl Clock + AllocGlobal),
     arguments: &Arguments,
     workload: Workload,
     size: u32,
-) -> Result<Line, Fault> {
-    let timed = if arguments.is_full {
-        measured::<i64>(rt, workload, size)?
-    } else {
-        measured::<()>(rt, workload, size)?
-    };
-    Ok(Line {
-        workload,
-        size,
-        timed,
-        shows_time: arguments.shows_times,
-    })
+) -> Result<Timed, Fault> {
+    if arguments.is_full {
+        return measured::<i64>(rt, workload, size);
+    }
+    measured::<()>(rt, workload, size)
 }

@@ -2,7 +2,7 @@
 
 use crate::digest::{digest_of, mix};
 use crate::fault::{BuildError, Fault};
-use crate::workloads::{Mesh, Outcome, Timed, Workload, triangulated};
+use crate::workloads::{Mesh, Outcome, Timed};
 use std::rt::Clock;
 use std::time::{Duration, Instant};
 use std::{fmt, io};
@@ -34,21 +34,17 @@ pub fn time_building<D: Drop, B: Fn() -> Result<Mesh<D>, BuildError>>(
     })
 }
 
-/// Times `size` edits of a mesh of triangles, each run on a clone. If `edit` returns a number, it
-/// is mixed into the checksum.
-pub fn time_editing<D: Default + Drop + Clone, E: Fn(&mut Mesh<D>) -> Option<u64>>(
+/// Times edits of a mesh, each run on a clone of it.
+pub fn time_editing<D: Drop + Clone, E: Fn(&mut Mesh<D>) -> Result<Timed, Fault>>(
     rt: &(impl Clock + AllocGlobal),
-    size: u32,
+    built: &Mesh<D>,
     edit: E,
 ) -> Result<Timed, Fault>
     requires { E.IsAlwaysCallable edit }
 {
-    let built = triangulated::<D>(rt.alloc(), size)?;
     least_of(FEWEST_EDITING, || {
         let mut dcel = built.try_clone(rt.alloc())?;
-        let start = Instant::now(rt);
-        let answer = edit(&mut dcel);
-        timed(rt, start, &dcel, u64::from(size), answer)
+        edit(&mut dcel)
     })
 }
 
@@ -108,7 +104,8 @@ pub fn least_of<R: Fn() -> Result<Timed, Fault>>(fewest: u32, run: R) -> Result<
 /// The line of a workload at a size.
 #[derive(Drop)]
 pub struct Line {
-    pub workload: Workload,
+    /// The workload's name.
+    pub name: &'static str,
     pub size: u32,
     pub timed: Timed,
     pub shows_time: bool,
@@ -116,17 +113,17 @@ pub struct Line {
 
 impl fmt::Display for Line {
     fn fmt<W: fmt::Write>(&self, f: &mut fmt::Formatter<W>) -> fmt::Result {
-        let name = self.workload.name();
-        let size = self.size;
-        write!(f, "{name} {size} ")?;
-        if self.shows_time {
-            let tenths = self.timed.tenths_of_nanoseconds();
-            let whole = tenths / 10;
-            let tenth = tenths % 10;
-            write!(f, "{whole}.{tenth} ")?;
+        let Line { name, size, .. } = self;
+        let Outcome {
+            checksum,
+            operations,
+        } = self.timed.outcome;
+        if !self.shows_time {
+            return write!(f, "{name} {size} {checksum} {operations}");
         }
-        let checksum = self.timed.outcome.checksum;
-        let operations = self.timed.outcome.operations;
-        write!(f, "{checksum} {operations}")
+        let tenths = self.timed.tenths_of_nanoseconds();
+        let whole = tenths / 10;
+        let tenth = tenths % 10;
+        write!(f, "{name} {size} {whole}.{tenth} {checksum} {operations}")
     }
 }

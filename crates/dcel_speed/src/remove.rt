@@ -3,7 +3,7 @@
 ghost use Rattle.std.specs.Prelude.{◌≤◌, ◌^◌, length};
 
 use crate::fault::{BuildError, Fault};
-use crate::measure::{FEWEST_EDITING, least_of, timed};
+use crate::measure::{time_editing, timed};
 use crate::random::Random;
 use crate::round_vertex::least_and_count;
 use crate::workloads::{Mesh, Timed, triangulated};
@@ -28,11 +28,16 @@ pub fn remove<D: Default + Drop + Clone>(
     size: u32,
 ) -> Result<Timed, Fault> {
     let built = triangulated::<D>(rt.alloc(), size)?;
-    let plan = plan_of(rt.alloc(), &built)?;
-    least_of(FEWEST_EDITING, || {
-        let mut dcel = built.try_clone(rt.alloc())?;
-        remove_once(rt, &mut dcel, &plan)
-    })
+    remove_from(rt, &built)
+}
+
+/// Times the removal of the vertices of a mesh.
+fn remove_from<D: Default + Drop + Clone>(
+    rt: &(impl Clock + AllocGlobal),
+    built: &Mesh<D>,
+) -> Result<Timed, Fault> {
+    let plan = plan_of(rt.alloc(), built)?;
+    time_editing(rt, built, |dcel: &mut Mesh<D>| remove_once(rt, dcel, &plan))
 }
 
 /// Times one removal of the vertices of a plan.
@@ -113,9 +118,28 @@ fn plan_of<D: Default + Drop + Clone>(
     built: &Mesh<D>,
 ) -> Result<Vec<FixedVertexHandle>, BuildError> {
     let order = order_of(alloc, built)?;
+    plan_in_order(alloc, built, &order)
+}
+
+/// Plans the removal of all but the corners in this order of first numbers.
+fn plan_in_order<D: Default + Drop + Clone>(
+    alloc: Global,
+    built: &Mesh<D>,
+    order: &[FixedVertexHandle],
+) -> Result<Vec<FixedVertexHandle>, BuildError> {
     let mut numbers: Vec<FixedVertexHandle> = built.fixed_vertices().collect(alloc)?;
+    plan_on_clone(alloc, built, order, &mut numbers)
+}
+
+/// The same, with the present number of each vertex.
+fn plan_on_clone<D: Default + Drop + Clone>(
+    alloc: Global,
+    built: &Mesh<D>,
+    order: &[FixedVertexHandle],
+    numbers: &mut [FixedVertexHandle],
+) -> Result<Vec<FixedVertexHandle>, BuildError> {
     let mut dcel = built.try_clone(alloc)?;
-    remove_in_order(alloc, &mut dcel, &order, &mut numbers)
+    remove_in_order(alloc, &mut dcel, order, numbers)
 }
 
 /// Draws an order of the vertices. The corners stay first.

@@ -1,11 +1,12 @@
 //! Vertices, swapped in pairs.
 
 use crate::fault::Fault;
-use crate::measure::time_editing;
+use crate::measure::{time_editing, timed};
 use crate::random::Random;
-use crate::workloads::{Mesh, Timed};
+use crate::workloads::{Mesh, Timed, triangulated};
 use spade_dcel::handles::FixedVertexHandle;
 use std::rt::Clock;
+use std::time::Instant;
 
 /// Offset of its random seed from that of `insert`.
 const OWN: u64 = 7;
@@ -15,9 +16,11 @@ pub fn swap<D: Default + Drop + Clone>(
     rt: &(impl Clock + AllocGlobal),
     size: u32,
 ) -> Result<Timed, Fault> {
-    time_editing(rt, size, |dcel: &mut Mesh<D>| {
+    let built = triangulated::<D>(rt.alloc(), size)?;
+    time_editing(rt, &built, |dcel: &mut Mesh<D>| {
+        let start = Instant::now(rt);
         swap_drawn(dcel, size);
-        None
+        timed(rt, start, dcel, u64::from(size), None)
     })
 }
 

@@ -85,57 +85,24 @@ pub enum Workload {
     Legalize,
 }
 
-/// All workloads.
-const ALL: [Workload; 15] = [
-    Workload::Insert,
-    Workload::InsertReserved,
-    Workload::Walk,
-    Workload::WalkBothEnds,
-    Workload::Faces,
-    Workload::Extend,
-    Workload::Hull,
-    Workload::Neighbors,
-    Workload::Split,
-    Workload::Flip,
-    Workload::Swap,
-    Workload::Clone,
-    Workload::Map,
-    Workload::Remove,
-    Workload::Legalize,
+/// All workloads, by their names in the arguments and in the output.
+pub const ALL: [(&str, Workload); 15] = [
+    ("insert", Workload::Insert),
+    ("insert_reserved", Workload::InsertReserved),
+    ("walk", Workload::Walk),
+    ("walk_both_ends", Workload::WalkBothEnds),
+    ("faces", Workload::Faces),
+    ("extend", Workload::Extend),
+    ("hull", Workload::Hull),
+    ("neighbors", Workload::Neighbors),
+    ("split", Workload::Split),
+    ("flip", Workload::Flip),
+    ("swap", Workload::Swap),
+    ("clone", Workload::Clone),
+    ("map", Workload::Map),
+    ("remove", Workload::Remove),
+    ("legalize", Workload::Legalize),
 ];
-
-impl Workload {
-    /// Returns its name in the arguments and in the output.
-    pub fn name(self) -> &'static str {
-        match self {
-            Workload::Insert => "insert",
-            Workload::InsertReserved => "insert_reserved",
-            Workload::Walk => "walk",
-            Workload::WalkBothEnds => "walk_both_ends",
-            Workload::Faces => "faces",
-            Workload::Extend => "extend",
-            Workload::Hull => "hull",
-            Workload::Neighbors => "neighbors",
-            Workload::Split => "split",
-            Workload::Flip => "flip",
-            Workload::Swap => "swap",
-            Workload::Clone => "clone",
-            Workload::Map => "map",
-            Workload::Remove => "remove",
-            Workload::Legalize => "legalize",
-        }
-    }
-
-    /// Returns the workload with this name.
-    pub fn parse(name: &str) -> Option<Workload> {
-        for workload in &ALL {
-            if workload.name() == name {
-                return Some(*workload);
-            }
-        }
-        None
-    }
-}
 
 /// The outcome of a workload.
 #[derive(Clone, Copy, Default)]
@@ -257,10 +224,18 @@ fn triangulated_in_room<D: Default + Drop>(
     size: u32,
 ) -> Result<Mesh<D>, BuildError> {
     let mut dcel = triangle_with_numbers_left(alloc, size)?;
+    insert_in_room(&mut dcel, size)?;
+    Ok(dcel)
+}
+
+/// Reserves room, and puts `size` vertices into inner faces drawn at random.
+fn insert_in_room<D: Default + Drop>(dcel: &mut Mesh<D>, size: u32) -> Result<(), BuildError>
+    requires triangulated { IsTriangulated dcel.old.shape }
+    requires room { HasRoom dcel.old.shape size (3 * size) (2 * size) }
+{
     let count = size as usize;
     dcel.reserve_capacity(count, 3 * count, 2 * count)?;
-    insert_all(&mut dcel, size)?;
-    Ok(dcel)
+    insert_all(dcel, size)
 }
 
 /// Builds a triangle, if there are numbers left for `size` insertions.
@@ -314,28 +289,39 @@ fn insert_next<D: Default + Drop>(
 /// Builds an edge, and extends it at its second vertex by `size` vertices.
 fn line<D: Default + Drop>(alloc: Global, size: u32) -> Result<Mesh<D>, BuildError> {
     let mut dcel = new(alloc)?;
+    extend_all(&mut dcel, size)?;
+    Ok(dcel)
+}
+
+/// Adds an edge to an empty mesh, and extends it at its second vertex by `size` vertices.
+fn extend_all<D: Default + Drop>(dcel: &mut Mesh<D>, size: u32) -> Result<(), BuildError> {
     let count = size as usize;
     if !dcel.has_room(count + 2, count + 1, 0) {
         return Err(BuildError::NoRoom);
     }
-    let mut end = first_edge(&mut dcel)?;
+    let mut end = first_edge(dcel)?;
     for index in 0..size {
-        end = extend_next(&mut dcel, end, i64::from(index) + 2)?;
+        end = extend_next(dcel, end, i64::from(index) + 2)?;
     }
-    Ok(dcel)
+    Ok(())
 }
 
 /// Adds an edge with its two vertices to an empty mesh, and returns the second vertex.
 fn first_edge<D: Default + Drop>(dcel: &mut Mesh<D>) -> Result<FixedVertexHandle, BuildError>
-    requires no_edge { dcel.old.shape.edges ≡ 0 }
-    requires room { HasRoom dcel.old.shape 2 1 0 }
+    requires { HasRoom dcel.old.shape 2 1 0 }
     ensures line_end { IfOk result (λ end. IsLineEnd dcel.new.shape end) }
     ensures grown { OnOk result (IsGrown dcel.old.shape 2 1 0 dcel.new.shape) }
 {
     every_mesh(dcel);
     let first = append_unconnected_vertex(dcel, 0)?;
     let second = append_unconnected_vertex(dcel, 1)?;
+    if !dcel.can_setup_initial_two_vertices(first, second) {
+        return Err(BuildError::NoEdge);
+    }
     setup_initial_two_vertices(dcel, first, second)?;
+    if !dcel.is_line_end(second) {
+        return Err(BuildError::NoEdge);
+    }
     Ok(second)
 }
 

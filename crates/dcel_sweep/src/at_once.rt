@@ -2,14 +2,18 @@
 //! command. It leaves what three calls leave, one after another.
 //!
 //! Its row is a line that gives up the vertex: the call takes the same border loop, of three half
-//! edges or of four, or the same strip.
+//! edges or of four, or the same strip. Before a line that this call can't take stands `no`, with
+//! the function's name.
 
+use crate::rows::Row;
+use crate::watched::made;
+use dcel_bench::checks::{holds, same};
 use dcel_bench::lines::{has_memory, opened, read_command};
 use dcel_bench::meshes::Mesh;
 use dcel_bench::refusing::{Memory, Refusals, Watched};
 use dcel_bench::require;
 use dcel_commands::commands::Command;
-use spade_dcel::handles::{FixedDirectedEdgeHandle, FixedVertexHandle};
+use spade_dcel::handles::{FixedDirectedEdgeHandle, FixedUndirectedEdgeHandle, FixedVertexHandle};
 use spade_dcel::operations::{
     Room, cleanup_isolated_vertex, cut_off_corner, remove_from_square, remove_from_triangle,
 };
@@ -47,6 +51,63 @@ fn given_up(dcel: &Mesh, line: &str, alloc: Global) -> Result<FixedVertexHandle,
     }
 }
 
+/// The edges of a vertex, its datum, and the vertex that gets its number once it is removed, if one
+/// does.
+#[derive(Drop)]
+struct Going<'a> {
+    edges: Vec<usize, Memory<'a>>,
+    vertex: (i64, Option<usize>),
+}
+
+/// Returns the numbers of the edges of a vertex.
+fn edges_of<'a>(
+    dcel: &Watched<'a>,
+    memory: Memory<'a>,
+    center: FixedVertexHandle,
+) -> Result<Vec<usize, Memory<'a>>, Fail> {
+    require!(center.index() < dcel.num_vertices());
+    let mut edges = Vec::new(memory);
+    for edge in dcel.vertex(center).out_edges() {
+        edges.push(edge.as_undirected().index())?;
+    }
+    Ok(edges)
+}
+
+/// Returns what goes if a vertex is removed.
+fn what_goes<'a>(
+    dcel: &Watched<'a>,
+    memory: Memory<'a>,
+    center: FixedVertexHandle,
+) -> Result<Going<'a>, Fail> {
+    require!(center.index() < dcel.num_vertices());
+    let last = dcel.num_vertices().saturating_sub(1);
+    let moved = if center.index() == last {
+        None
+    } else {
+        Some(last)
+    };
+    let vertex = (*dcel.vertex_data(center), moved);
+    let edges = edges_of(dcel, memory, center)?;
+    Ok(Going { edges, vertex })
+}
+
+/// Checks which edges and which vertex a call says are gone. The edges ascend.
+fn check_gone(
+    edges: &[FixedUndirectedEdgeHandle],
+    datum: i64,
+    moved: Option<FixedVertexHandle>,
+    going: &Going,
+) -> Result<(), Fail> {
+    let mut least = 0;
+    for edge in edges {
+        let is_next = edge.index() >= least && going.edges.contains(&edge.index());
+        holds(is_next, "the edges that are gone")?;
+        least = edge.index().saturating_add(1);
+    }
+    let found = (datum, moved.map(|vertex| vertex.index()));
+    same(found, going.vertex, "the vertex that is gone")
+}
+
 /// Removes a vertex from a triangle with these requests refused. Returns whether there was memory.
 fn remove_from_three<'a>(
     dcel: &mut Watched<'a>,
@@ -54,13 +115,19 @@ fn remove_from_three<'a>(
     border: &[FixedDirectedEdgeHandle],
     center: FixedVertexHandle,
     refusals: Refusals,
+    going: &Going,
 ) -> Result<bool, Fail> {
     require!(
         dcel.can_remove_from_triangle(border, center)
             && dcel.has_room_for(Room::REMOVE_FROM_TRIANGLE)
     );
     memory.refuse(refusals);
-    Ok(remove_from_triangle(dcel, border, center).is_ok())
+    let Ok(gone) = remove_from_triangle(dcel, border, center) else {
+        return Ok(false);
+    };
+    let vertex = gone.removed_vertex;
+    check_gone(&gone.removed_edges, vertex, gone.swapped_in_vertex, going)?;
+    Ok(true)
 }
 
 /// Removes a vertex from a square with these requests refused. Returns whether there was memory.
@@ -70,12 +137,18 @@ fn remove_from_four<'a>(
     border: &[FixedDirectedEdgeHandle],
     center: FixedVertexHandle,
     refusals: Refusals,
+    going: &Going,
 ) -> Result<bool, Fail> {
     require!(
         dcel.can_remove_from_square(border, center) && dcel.has_room_for(Room::REMOVE_FROM_SQUARE)
     );
     memory.refuse(refusals);
-    Ok(remove_from_square(dcel, border, center).is_ok())
+    let Ok(gone) = remove_from_square(dcel, border, center) else {
+        return Ok(false);
+    };
+    let vertex = gone.removed_vertex;
+    check_gone(&gone.removed_edges, vertex, gone.swapped_in_vertex, going)?;
+    Ok(true)
 }
 
 /// Removes a vertex inside with these requests refused. Returns whether there was memory.
@@ -86,9 +159,10 @@ fn remove_inside<'a>(
     center: FixedVertexHandle,
     refusals: Refusals,
 ) -> Result<bool, Fail> {
+    let going = what_goes(dcel, memory, center)?;
     match border.len() {
-        4 => remove_from_four(dcel, memory, border, center, refusals),
-        _ => remove_from_three(dcel, memory, border, center, refusals),
+        4 => remove_from_four(dcel, memory, border, center, refusals, &going),
+        _ => remove_from_three(dcel, memory, border, center, refusals, &going),
     }
 }
 
@@ -132,4 +206,25 @@ pub fn make_three(dcel: &mut Mesh, line: &str, alloc: Global) -> Result<bool, Fa
     give_up(dcel, line, alloc)?;
     let remove: Command<i64> = Command::Remove(vertex);
     has_memory(dcel, remove)
+}
+
+/// Returns whether a function asks nothing more but room of the vertex and the list of a line.
+fn can_make(dcel: &Mesh, function: &str, line: &str, alloc: Global) -> Result<bool, Fail> {
+    match (function, read_command(line, alloc)?) {
+        ("remove_from_triangle", Command::Isolate(center, border)) => {
+            Ok(dcel.can_remove_from_triangle(&border, center))
+        }
+        ("remove_from_square", Command::Isolate(center, border)) => {
+            Ok(dcel.can_remove_from_square(&border, center))
+        }
+        ("cut_off_corner", Command::Strip(strip)) => Ok(dcel.can_disconnect_edge_strip(&strip)),
+        _ => Err(Fail::new(format_args!("no call of {function}: {line}"))),
+    }
+}
+
+/// Checks that a function can't take the line of a row.
+pub fn check_none(row: Row, function: &str, alloc: Global) -> Result<(), Fail> {
+    let dcel = made(alloc, row.block)?;
+    let can = can_make(&dcel, function, row.line, alloc)?;
+    holds(!can, format_args!("{function} takes {}", row.line))
 }

@@ -260,7 +260,10 @@ pub fn sweep_meshes(block: &str, swept: &mut Swept, alloc: Global) -> Result<(),
 /// Sweeps vertices removed at once.
 pub fn sweep_removals(block: &str, swept: &mut Swept, alloc: Global) -> Result<(), Fail> {
     for row in &rows_of(block, alloc)? {
-        sweep(*row, Way::AtOnce, swept, alloc)?;
+        match row.requests.strip_prefix("no ") {
+            Some(function) => at_once::check_none(*row, function, alloc)?,
+            None => sweep(*row, Way::AtOnce, swept, alloc)?,
+        }
     }
     Ok(())
 }

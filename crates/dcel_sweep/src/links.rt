@@ -2,6 +2,7 @@
 
 use crate::swept::Swept;
 use dcel_bench::checks::same;
+use dcel_bench::meshes::{adjacent_edge, out_edge};
 use dcel_bench::refusing::{Memory, Refusals, Refusing, Watched};
 use dcel_bench::snapshots::{Snapshot, snapshot_of};
 use spade_dcel::operations::{
@@ -30,14 +31,12 @@ fn name(call: Call) -> &'static str {
 
 type Data<'a> = MeshData<i64, i64, i64, i64, Memory<'a>>;
 
-/// A call, its links, the data that are given with them, how many requests for memory it makes, and
-/// the reason if the links are refused when there is memory.
+/// A call, its links, of how many vertices, edges and faces data are given with them, how many
+/// requests for memory it makes, and the reason if the links are refused when there is memory.
 struct Row {
     call: Call,
     links: Links<'static>,
-    vertices: &'static [i64],
-    edges: &'static [[i64; 3]],
-    faces: &'static [i64],
+    counts: [u32; 3],
     requests: u64,
     refused: Option<LinksError>,
 }
@@ -48,99 +47,175 @@ const TRIANGLE: Links<'static> = Links {
     face: &[0, 1, 0, 1, 0, 1],
 };
 
-const ROWS: [Row; 6] = [
+const NO_LINKS: Links<'static> = Links {
+    next: &[],
+    origin: &[],
+    face: &[],
+};
+
+/// Half edge 4 lies in face 1, and half edge 2, the one before, in face 0.
+const LEAVING: Links<'static> = Links {
+    next: &[2, 5, 4, 1, 0, 3],
+    origin: &[0, 1, 1, 2, 2, 0],
+    face: &[0, 1, 0, 1, 1, 1],
+};
+
+/// A torus of one hexagon.
+const TORUS: Links<'static> = Links {
+    next: &[3, 2, 5, 4, 1, 0],
+    origin: &[0, 1, 0, 1, 0, 1],
+    face: &[0, 0, 0, 0, 0, 0],
+};
+
+const ROWS: [Row; 15] = [
     Row {
         call: FromLinks,
         links: TRIANGLE,
-        vertices: &[5, -6, 7],
-        edges: &[[1, 2, 3], [4, 5, 6], [7, 8, 9]],
-        faces: &[10, 11],
+        counts: [3, 3, 2],
         requests: 15,
         refused: None,
     },
     Row {
-        call: FromAnchoredLinks(&[Some(0), Some(2), Some(3)], &[Some(2), Some(1)]),
-        links: TRIANGLE,
-        vertices: &[5, -6, 7],
-        edges: &[[1, 2, 3], [4, 5, 6], [7, 8, 9]],
-        faces: &[10, 11],
-        requests: 15,
-        refused: None,
-    },
-    Row {
         call: FromLinks,
-        links: Links {
-            next: &[],
-            origin: &[],
-            face: &[],
-        },
-        vertices: &[5, -6],
-        edges: &[],
-        faces: &[10],
+        links: NO_LINKS,
+        counts: [2, 0, 1],
         requests: 4,
         refused: None,
     },
-    // Half edge 4 lies in face 1, and half edge 2, the one before, in face 0.
     Row {
         call: FromLinks,
-        links: Links {
-            next: &[2, 5, 4, 1, 0, 3],
-            origin: &[0, 1, 1, 2, 2, 0],
-            face: &[0, 1, 0, 1, 1, 1],
-        },
-        vertices: &[5, -6, 7],
-        edges: &[[1, 2, 3], [4, 5, 6], [7, 8, 9]],
-        faces: &[10, 11],
+        links: TRIANGLE,
+        counts: [3, 2, 2],
+        requests: 0,
+        refused: Some(LinksError::Edges),
+    },
+    Row {
+        call: FromLinks,
+        links: LEAVING,
+        counts: [3, 3, 2],
         requests: 1,
         refused: Some(LinksError::Links(LinksFault::LeavesFace(2))),
     },
-    // A torus of one hexagon.
     Row {
         call: FromLinks,
-        links: Links {
-            next: &[3, 2, 5, 4, 1, 0],
-            origin: &[0, 1, 0, 1, 0, 1],
-            face: &[0, 0, 0, 0, 0, 0],
-        },
-        vertices: &[5, -6],
-        edges: &[[1, 2, 3], [4, 5, 6], [7, 8, 9]],
-        faces: &[10],
+        links: TORUS,
+        counts: [2, 3, 1],
         requests: 7,
         refused: Some(LinksError::Links(LinksFault::NotSphere(1))),
+    },
+    // Not all of them are the last half edges.
+    Row {
+        call: FromAnchoredLinks(&[Some(0), Some(2), Some(3)], &[Some(2), Some(1)]),
+        links: TRIANGLE,
+        counts: [3, 3, 2],
+        requests: 15,
+        refused: None,
+    },
+    Row {
+        call: FromAnchoredLinks(&[None, None], &[None]),
+        links: NO_LINKS,
+        counts: [2, 0, 1],
+        requests: 4,
+        refused: None,
+    },
+    // There are data of another edge too.
+    Row {
+        call: FromAnchoredLinks(&[], &[]),
+        links: TRIANGLE,
+        counts: [3, 4, 2],
+        requests: 0,
+        refused: Some(LinksError::Edges),
+    },
+    Row {
+        call: FromAnchoredLinks(&[Some(0), Some(2)], &[Some(2), Some(1)]),
+        links: TRIANGLE,
+        counts: [3, 3, 2],
+        requests: 0,
+        refused: Some(LinksError::Anchors),
+    },
+    Row {
+        call: FromAnchoredLinks(&[Some(0), Some(2), Some(3)], &[Some(2), Some(1), None]),
+        links: TRIANGLE,
+        counts: [3, 3, 2],
+        requests: 0,
+        refused: Some(LinksError::Anchors),
+    },
+    // The links are looked at before the anchors.
+    Row {
+        call: FromAnchoredLinks(&[Some(0), None, Some(3)], &[Some(2), Some(1), None]),
+        links: TRIANGLE,
+        counts: [3, 3, 3],
+        requests: 7,
+        refused: Some(LinksError::Links(LinksFault::UnusedFace(2))),
     },
     // Half edge 0 starts at another vertex.
     Row {
         call: FromAnchoredLinks(&[Some(0), Some(0), Some(3)], &[Some(2), Some(1)]),
         links: TRIANGLE,
-        vertices: &[5, -6, 7],
-        edges: &[[1, 2, 3], [4, 5, 6], [7, 8, 9]],
-        faces: &[10, 11],
+        counts: [3, 3, 2],
         requests: 7,
         refused: Some(LinksError::VertexAnchor(1)),
     },
+    Row {
+        call: FromAnchoredLinks(&[Some(0), Some(2), None], &[Some(2), Some(1)]),
+        links: TRIANGLE,
+        counts: [3, 3, 2],
+        requests: 7,
+        refused: Some(LinksError::VertexAnchor(2)),
+    },
+    // There is no half edge 6.
+    Row {
+        call: FromAnchoredLinks(&[Some(0), Some(2), Some(3)], &[Some(2), Some(6)]),
+        links: TRIANGLE,
+        counts: [3, 3, 2],
+        requests: 7,
+        refused: Some(LinksError::FaceAnchor(1)),
+    },
+    Row {
+        call: FromAnchoredLinks(&[Some(0), Some(2), Some(3)], &[None, Some(1)]),
+        links: TRIANGLE,
+        counts: [3, 3, 2],
+        requests: 7,
+        refused: Some(LinksError::FaceAnchor(0)),
+    },
 ];
 
-/// Returns the data of edges.
-fn edge_data<'a>(
+/// Returns data of vertices or faces, from `first` on.
+fn elements<'a>(
     memory: Memory<'a>,
-    edges: &[[i64; 3]],
+    count: u32,
+    first: i64,
+) -> Result<Vec<i64, Memory<'a>>, AllocError> {
+    let mut data = Vec::new(memory);
+    for element in 0..count {
+        data.push(first.saturating_add(i64::from(element)))?;
+    }
+    Ok(data)
+}
+
+/// Returns data of edges.
+fn edges<'a>(
+    memory: Memory<'a>,
+    count: u32,
 ) -> Result<Vec<EdgeData<i64, i64>, Memory<'a>>, AllocError> {
     let mut data = Vec::new(memory);
-    for [normalized, reversed, undirected] in edges {
+    for edge in 0..count {
+        let edge = i64::from(edge);
         data.push(EdgeData {
-            normalized: *normalized,
-            reversed: *reversed,
-            undirected: *undirected,
+            normalized: 100 + edge,
+            reversed: 200 + edge,
+            undirected: 300 + edge,
         })?;
     }
     Ok(data)
 }
 
-/// Returns the data of a row, for which there is memory.
-fn data<'a>(memory: Memory<'a>, row: &Row) -> Result<Data<'a>, AllocError> {
-    let edges = edge_data(memory, row.edges)?;
-    let vertices = Vec::from_slice(memory, row.vertices)?;
-    let faces = Vec::from_slice(memory, row.faces)?;
+/// Returns data for which there is memory, and which tell their elements apart.
+fn data<'a>(memory: Memory<'a>, counts: [u32; 3]) -> Result<Data<'a>, AllocError> {
+    let [vertex_count, edge_count, face_count] = counts;
+    let vertices = elements(memory, vertex_count, 0)?;
+    let edges = edges(memory, edge_count)?;
+    let faces = elements(memory, face_count, 400)?;
     Ok(MeshData {
         vertices,
         edges,
@@ -148,14 +223,39 @@ fn data<'a>(memory: Memory<'a>, row: &Row) -> Result<Data<'a>, AllocError> {
     })
 }
 
-/// Checks that these are the data of a row.
-fn check_data(data: &Data, row: &Row) -> Result<(), Fail> {
-    same(data.vertices.as_slice(), row.vertices, "data of vertices")?;
-    same(data.faces.as_slice(), row.faces, "data of faces")?;
-    same(data.edges.len(), row.edges.len(), "data of edges")?;
-    for (found, wanted) in data.edges.iter().zip(row.edges) {
-        let found = [found.normalized, found.reversed, found.undirected];
-        same(&found, wanted, "data of an edge")?;
+/// Checks that these are the data of so many vertices, edges and faces.
+fn check_data(found: &Data, counts: [u32; 3]) -> Result<(), Fail> {
+    let [vertex_count, edge_count, face_count] = counts;
+    same(
+        found.vertices.len(),
+        vertex_count as usize,
+        "data of vertices",
+    )?;
+    same(found.edges.len(), edge_count as usize, "data of edges")?;
+    same(found.faces.len(), face_count as usize, "data of faces")?;
+    check_elements(&found.vertices, 0)?;
+    check_elements(&found.faces, 400)?;
+    check_edges(&found.edges)
+}
+
+/// Checks that these are data from `first` on.
+fn check_elements(found: &[i64], first: i64) -> Result<(), Fail> {
+    let mut wanted = first;
+    for datum in found {
+        same(*datum, wanted, "a datum")?;
+        wanted = wanted.saturating_add(1);
+    }
+    Ok(())
+}
+
+/// Checks that these are data of edges.
+fn check_edges(found: &[EdgeData<i64, i64>]) -> Result<(), Fail> {
+    let mut wanted: i64 = 100;
+    for edge in found {
+        let data = [edge.normalized, edge.reversed, edge.undirected];
+        let [reversed, undirected] = [wanted.saturating_add(100), wanted.saturating_add(200)];
+        same(data, [wanted, reversed, undirected], "data of an edge")?;
+        wanted = wanted.saturating_add(1);
     }
     Ok(())
 }
@@ -178,10 +278,39 @@ fn make<'a>(memory: Memory<'a>, row: &Row, data: Data<'a>, refusals: Refusals) -
 /// Returns what the mesh of a row is like if nothing is refused, or None if its links are.
 fn left(row: &Row, alloc: Global) -> Result<Option<Snapshot>, Fail> {
     let memory = Refusing::new(alloc);
-    let data = data(&memory, row)?;
+    let data = data(&memory, row.counts)?;
     match make(&memory, row, data, Refusals::None) {
         Ok(made) => snapshot_of(&made, alloc).map(|seen| Some(seen)),
         Err(_) => Ok(None),
+    }
+}
+
+/// Checks that the vertices have these anchors.
+fn check_vertices(made: &Watched, anchors: &[Option<u32>]) -> Result<(), Fail> {
+    for (index, anchor) in anchors.iter().enumerate() {
+        let wanted = anchor.map(|edge| edge as usize);
+        same(out_edge(made, index)?, wanted, "the anchor of a vertex")?;
+    }
+    Ok(())
+}
+
+/// Checks that the faces have these anchors.
+fn check_faces(made: &Watched, anchors: &[Option<u32>]) -> Result<(), Fail> {
+    for (index, anchor) in anchors.iter().enumerate() {
+        let wanted = anchor.map(|edge| edge as usize);
+        same(adjacent_edge(made, index)?, wanted, "the anchor of a face")?;
+    }
+    Ok(())
+}
+
+/// Checks that a mesh has the anchors that were given with its links.
+fn check_anchored(made: &Watched, call: Call) -> Result<(), Fail> {
+    match call {
+        FromLinks => Ok(()),
+        FromAnchoredLinks(vertices, faces) => {
+            check_vertices(made, vertices)?;
+            check_faces(made, faces)
+        }
     }
 }
 
@@ -197,11 +326,12 @@ fn check_made(
     match outcome {
         Ok(made) => {
             same(None, row.refused, call)?;
+            check_anchored(made, row.call)?;
             same(&Some(snapshot_of(made, alloc)?), left, call)
         }
         Err(refused) => {
             same(Some(refused.reason), row.refused, call)?;
-            check_data(&refused.back, row)
+            check_data(&refused.back, row.counts)
         }
     }
 }
@@ -228,7 +358,7 @@ fn make_again<'a>(
 /// Checks that memory was the reason, and that the data come back.
 fn check_refused(refused: &RefusedLinks<Data>, row: &Row) -> Result<(), Fail> {
     same(refused.reason, LinksError::OutOfMemory, name(row.call))?;
-    check_data(&refused.back, row)
+    check_data(&refused.back, row.counts)
 }
 
 /// Makes the mesh of a row with the request of this number refused, and again of the data that come
@@ -240,7 +370,7 @@ fn is_refused(
     alloc: Global,
 ) -> Result<bool, Fail> {
     let memory = Refusing::new(alloc);
-    let data = data(&memory, row)?;
+    let data = data(&memory, row.counts)?;
     let outcome = make(&memory, row, data, Refusals::One(number));
     let is_refused = memory.requests() > number;
     if is_refused {

@@ -6,7 +6,7 @@
 //! Its arguments name files of rows: in `.calls`, `.meshes` and `.removals` only calls, in `.flips`
 //! legalizations, in `.lists` commands one after another, in `.runs` lines. Blocks of a file are
 //! separated by empty lines; `#` begins a comment. The lines of a block construct a mesh. A line
-//! after a number is a row: the number is that of its requests for memory.
+//! after a number is a row: the number is that of its requests for memory. A row may end in a reply.
 //!
 //! The program prints how many requests of each function were refused, or ends at the first row
 //! that fails. `tools/gate/check_sweep` looks for functions without a row.

@@ -12,31 +12,38 @@ pub struct Row<'a> {
     pub requests: &'a str,
     /// The line.
     pub line: &'a str,
+    /// What stands after the line, if anything: a reply.
+    pub reply: &'a str,
 }
 
-/// Returns what stands before the line of a row and the line; None if the text is no row.
-fn row_of(text: &str) -> Option<(&str, &str)> {
-    if text.starts_with('#') {
-        return None;
-    }
-    text.split_once(": ")
+/// Returns whether the text is a row.
+fn is_row(text: &str) -> bool {
+    !text.starts_with('#') && text.contains(": ")
 }
 
 /// Returns whether the text is a line that makes the mesh.
 pub fn is_of_mesh(text: &str) -> bool {
-    !text.is_empty() && !text.starts_with('#') && row_of(text).is_none()
+    !text.is_empty() && !text.starts_with('#') && !text.contains(": ")
+}
+
+/// Returns the row that a text is.
+fn row_of<'a>(block: &'a str, text: &'a str) -> Row<'a> {
+    let (requests, rest) = text.split_once(": ").unwrap_or(("", text));
+    let (line, reply) = rest.split_once(": ").unwrap_or((rest, ""));
+    Row {
+        block,
+        requests,
+        line,
+        reply,
+    }
 }
 
 /// Returns the rows of a block.
 pub fn rows_of<'a>(block: &'a str, alloc: Global) -> Result<Vec<Row<'a>>, Fail> {
     let mut rows = Vec::new(alloc);
     for text in block.lines() {
-        if let Some((requests, line)) = row_of(text) {
-            rows.push(Row {
-                block,
-                requests,
-                line,
-            })?;
+        if is_row(text) {
+            rows.push(row_of(block, text))?;
         }
     }
     Ok(rows)

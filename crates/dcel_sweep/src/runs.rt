@@ -1,4 +1,7 @@
 //! Lines: the one that meets the refusal is refused, and the run goes on as if it weren't there.
+//!
+//! A row may have a reply behind its line: the line's last request is answered by this one then, and
+//! leaves the mesh as it is, too.
 
 use crate::rows::{Row, is_of_mesh, number, rows_of};
 use crate::swept::Swept;
@@ -16,9 +19,14 @@ const CALL: &str = "run";
 const SEEN: &str =
     "words\ncounts\nhull\ncheck\norigin 0\norigin 5\nout 0\nout 3\nget 0\nbetween 0 1";
 
-/// Returns what a run over the lines writes with these requests refused, and how many requests it
-/// makes.
-fn run(lines: &[u8], refusals: Refusals, alloc: Global) -> Result<(Vec<u8>, u64), Fail> {
+/// What a line is answered that is refused memory.
+const REFUSED: &str = "refused 20 OutOfMemory";
+
+/// What a run writes, and how many requests it makes.
+type Ran = (Vec<u8>, u64);
+
+/// Runs these lines with these requests refused.
+fn run(lines: &[u8], refusals: Refusals, alloc: Global) -> Result<Ran, Fail> {
     let memory = Refusing::new(alloc);
     memory.refuse(refusals);
     let ran = run_lines(&memory, lines, alloc);
@@ -26,220 +34,238 @@ fn run(lines: &[u8], refusals: Refusals, alloc: Global) -> Result<(Vec<u8>, u64)
     Ok((ran.written, memory.requests()))
 }
 
-/// Lines that have memory, in the text of a block, and after them its rows, which are lines that
-/// are refused each of their requests in turn.
-#[derive(Clone, Copy)]
-struct Block<'a> {
-    text: &'a str,
-    rows: &'a [Row<'a>],
-}
-
 /// Adds the lines of a block that have memory.
-fn push_mesh(text: &mut Vec<u8>, block: Block) -> Result<(), AllocError> {
-    for line in block.text.lines() {
+fn push_mesh<'a>(lines: &mut Vec<&'a str>, block: &'a str) -> Result<(), AllocError> {
+    for line in block.lines() {
         if is_of_mesh(line) {
-            push_line(text, line)?;
+            lines.push(line)?;
         }
     }
     Ok(())
 }
 
-fn push_rows(text: &mut Vec<u8>, rows: &[Row]) -> Result<(), AllocError> {
+fn push_rows<'a>(lines: &mut Vec<&'a str>, rows: &[Row<'a>]) -> Result<(), AllocError> {
     for row in rows {
-        push_line(text, row.line)?;
+        lines.push(row.line)?;
     }
     Ok(())
 }
 
-/// Adds the lines of a block up to this row.
-fn push_before(text: &mut Vec<u8>, block: Block, place: usize) -> Result<(), AllocError> {
-    push_mesh(text, block)?;
-    push_rows(text, block.rows.get(..place).unwrap_or(&[]))
+fn push_all(text: &mut Vec<u8>, lines: &[&str]) -> Result<(), AllocError> {
+    for line in lines {
+        push_line(text, *line)?;
+    }
+    Ok(())
 }
 
-/// Returns the lines of a block up to this row.
-fn before(block: Block, place: usize, alloc: Global) -> Result<Vec<u8>, AllocError> {
+fn push_joined(
+    text: &mut Vec<u8>,
+    lines: &[&str],
+    [place, next]: [usize; 2],
+) -> Result<(), AllocError> {
+    push_all(text, lines.get(..place).unwrap_or(&[]))?;
+    push_all(text, lines.get(next..).unwrap_or(&[]))
+}
+
+/// Returns the lines up to one place and from another one on.
+fn joined(lines: &[&str], places: [usize; 2], alloc: Global) -> Result<Vec<u8>, AllocError> {
     let mut text = Vec::new(alloc);
-    push_before(&mut text, block, place)?;
+    push_joined(&mut text, lines, places)?;
     Ok(text)
 }
 
-/// Adds the lines of a block from this row on, and those that come after each block.
-fn push_from(text: &mut Vec<u8>, block: Block, place: usize) -> Result<(), AllocError> {
-    push_rows(text, block.rows.get(place..).unwrap_or(&[]))?;
-    push_line(text, SEEN)
+/// Runs the lines up to one place and from another one on, and refuses nothing.
+fn run_all(lines: &[&str], places: [usize; 2], alloc: Global) -> Result<Ran, Fail> {
+    let text = joined(lines, places, alloc)?;
+    run(&text, Refusals::None, alloc)
 }
 
-/// Returns the lines of a block up to one row and from another one on, and those that come after
-/// each block.
-fn lines(block: Block, [place, next]: [usize; 2], alloc: Global) -> Result<Vec<u8>, AllocError> {
-    let mut text = before(block, place, alloc)?;
-    push_from(&mut text, block, next)?;
-    Ok(text)
-}
-
-/// Returns what a run over these lines writes if nothing is refused.
-fn replies(lines: &[u8], alloc: Global) -> Result<Vec<u8>, Fail> {
-    let (written, _) = run(lines, Refusals::None, alloc)?;
-    Ok(written)
-}
-
-fn replies_before(block: Block, place: usize, alloc: Global) -> Result<Vec<u8>, Fail> {
-    let lines = before(block, place, alloc)?;
-    replies(&lines, alloc)
-}
-
-/// Returns what is written if the line at this place isn't there.
-fn replies_without(block: Block, place: usize, alloc: Global) -> Result<Vec<u8>, Fail> {
-    let lines = lines(block, [place, place.saturating_add(1)], alloc)?;
-    replies(&lines, alloc)
-}
-
-/// Adds to the replies to the lines before one its refusal, and the replies to the lines after it as
-/// they are without it.
-fn push_refused(replies: &mut Vec<u8>, without: &[u8]) -> Result<(), AllocError> {
-    let rest = without.get(replies.len()..).unwrap_or(&[]);
-    push_line(replies, "refused 20 OutOfMemory")?;
-    replies.extend_from_slice(rest)
-}
-
-fn with_refusal(
-    block: Block,
-    place: usize,
-    without: &[u8],
-    alloc: Global,
-) -> Result<Vec<u8>, Fail> {
-    let mut replies = replies_before(block, place, alloc)?;
-    push_refused(&mut replies, without)?;
-    Ok(replies)
-}
-
-/// Returns what is written if the line at this place is refused.
-///
-/// These are the replies to the lines before it, the refusal, and the replies that the lines after
-/// it get if it isn't there.
-fn wanted(block: Block, place: usize, alloc: Global) -> Result<Vec<u8>, Fail> {
-    let without = replies_without(block, place, alloc)?;
-    with_refusal(block, place, &without, alloc)
-}
-
-/// Checks that these texts are the same.
-fn check_text(written: &[u8], wanted: &[u8], what: &str, alloc: Global) -> Result<(), Fail> {
-    let written = String::from_utf8_lossy(alloc, written)?;
-    let wanted = String::from_utf8_lossy(alloc, wanted)?;
-    same(written, wanted, format_args!("{CALL}: {what}"))
-}
-
-/// Returns how many requests a run over these lines makes.
-fn requests_of(lines: &[u8], alloc: Global) -> Result<u64, Fail> {
-    let (_, requests) = run(lines, Refusals::None, alloc)?;
+/// Returns how many requests a run over the lines up to a place makes.
+fn requests_before(lines: &[&str], place: usize, alloc: Global) -> Result<u64, Fail> {
+    let (_, requests) = run_all(lines, [place, lines.len()], alloc)?;
     Ok(requests)
 }
 
-/// Returns how many requests a run over the lines of a block up to this row makes.
-fn requests_before(block: Block, place: usize, alloc: Global) -> Result<u64, Fail> {
-    let lines = before(block, place, alloc)?;
-    requests_of(&lines, alloc)
+/// Adds to the replies to the lines before one the reply to it, and those to the lines after it as
+/// they are without it.
+fn push_rest(replies: &mut Vec<u8>, reply: &str, without: &[u8]) -> Result<(), AllocError> {
+    let rest = without.get(replies.len()..).unwrap_or(&[]);
+    push_line(replies, reply)?;
+    replies.extend_from_slice(rest)
 }
 
-/// Returns the number of the first request of the row at this place, after checking how many it
-/// makes.
-fn first_request(block: Block, place: usize, requests: u64, alloc: Global) -> Result<u64, Fail> {
-    let first = requests_before(block, place, alloc)?;
-    let end = requests_before(block, place.saturating_add(1), alloc)?;
-    let what = format_args!("{CALL}: requests of row {place} after {}", block.text);
-    same(end.saturating_sub(first), requests, what)?;
-    Ok(first)
+fn with_reply(
+    lines: &[&str],
+    place: usize,
+    reply: &str,
+    without: &[u8],
+    alloc: Global,
+) -> Result<Vec<u8>, Fail> {
+    let (mut replies, _) = run_all(lines, [place, lines.len()], alloc)?;
+    push_rest(&mut replies, reply, without)?;
+    Ok(replies)
+}
+
+/// Returns what is written if the line at this place is answered so, and changes nothing.
+fn wanted(lines: &[&str], place: usize, reply: &str, alloc: Global) -> Result<Vec<u8>, Fail> {
+    let (without, _) = run_all(lines, [place, place.saturating_add(1)], alloc)?;
+    with_reply(lines, place, reply, &without, alloc)
+}
+
+/// Checks that these texts are the same.
+fn check_text(written: &[u8], wanted: &[u8], request: u64, alloc: Global) -> Result<(), Fail> {
+    let written = String::from_utf8_lossy(alloc, written)?;
+    let wanted = String::from_utf8_lossy(alloc, wanted)?;
+    same(written, wanted, format_args!("{CALL}: request {request}"))
 }
 
 /// Checks what a run over these lines writes if the request of this number is refused.
-fn check_refused(
-    lines: &[u8],
-    number: u64,
-    wanted: &[u8],
-    line: &str,
-    alloc: Global,
-) -> Result<(), Fail> {
-    let (written, _) = run(lines, Refusals::One(number), alloc)?;
-    check_text(&written, wanted, line, alloc)
+fn check_refused(text: &[u8], request: u64, wanted: &[u8], alloc: Global) -> Result<(), Fail> {
+    let (written, _) = run(text, Refusals::One(request), alloc)?;
+    check_text(&written, wanted, request, alloc)
 }
 
 /// Refuses each request from the first of these numbers up to the second, which these lines make.
 fn refuse_each(
-    lines: &[u8],
-    numbers: [u64; 2],
+    text: &[u8],
+    [first, end]: [u64; 2],
     wanted: &[u8],
-    line: &str,
     alloc: Global,
 ) -> Result<(), Fail> {
-    let [first, end] = numbers;
-    for number in first..end {
-        check_refused(lines, number, wanted, line, alloc)?;
+    for request in first..end {
+        check_refused(text, request, wanted, alloc)?;
     }
     Ok(())
 }
 
 fn refuse_all(
-    block: Block,
+    lines: &[&str],
     place: usize,
-    numbers: [u64; 2],
+    requests: [u64; 2],
     wanted: &[u8],
-    line: &str,
     alloc: Global,
 ) -> Result<(), Fail> {
-    let lines = lines(block, [place, place], alloc)?;
-    refuse_each(&lines, numbers, wanted, line, alloc)
+    let text = joined(lines, [place, place], alloc)?;
+    refuse_each(&text, requests, wanted, alloc)
+}
+
+/// Refuses these requests, which the line at this place makes, and is answered so.
+fn refuse_some(
+    lines: &[&str],
+    place: usize,
+    requests: [u64; 2],
+    reply: &str,
+    alloc: Global,
+) -> Result<(), Fail> {
+    let wanted = wanted(lines, place, reply, alloc)?;
+    refuse_all(lines, place, requests, &wanted, alloc)
+}
+
+/// Returns the number of the first request of the line at this place, after checking how many it
+/// makes.
+fn first_request(
+    lines: &[&str],
+    place: usize,
+    row: Row,
+    requests: u64,
+    alloc: Global,
+) -> Result<u64, Fail> {
+    let first = requests_before(lines, place, alloc)?;
+    let end = requests_before(lines, place.saturating_add(1), alloc)?;
+    let what = format_args!("{CALL}: requests of {} after {}", row.line, row.block);
+    same(end.saturating_sub(first), requests, what)?;
+    Ok(first)
 }
 
 /// Refuses the row at this place each of its requests in turn.
-fn refuse(block: Block, place: usize, row: Row, alloc: Global) -> Result<u64, Fail> {
-    let requests = number(row.requests)?;
-    let first = first_request(block, place, requests, alloc)?;
-    let numbers = [first, first.saturating_add(requests)];
-    let wanted = wanted(block, place, alloc)?;
-    refuse_all(block, place, numbers, &wanted, row.line, alloc)?;
-    Ok(requests)
-}
-
-/// Checks that what comes after a block makes no request.
-fn check_seen(block: Block, alloc: Global) -> Result<(), Fail> {
-    let end = block.rows.len();
-    let first = requests_before(block, end, alloc)?;
-    let lines = lines(block, [end, end], alloc)?;
-    same(requests_of(&lines, alloc)?, first, "requests of queries")
+fn refuse(
+    lines: &[&str],
+    place: usize,
+    row: Row,
+    requests: u64,
+    alloc: Global,
+) -> Result<(), Fail> {
+    let first = first_request(lines, place, row, requests, alloc)?;
+    let end = first.saturating_add(requests);
+    let last = end.saturating_sub(u64::from(!row.reply.is_empty()));
+    refuse_some(lines, place, [first, last], REFUSED, alloc)?;
+    refuse_some(lines, place, [last, end], row.reply, alloc)
 }
 
 /// Checks that a run whose first request is refused ends before it reads or writes, and that none
 /// comes after it before the first line.
-fn check_no_run(block: Block, alloc: Global) -> Result<(), Fail> {
-    same(requests_of(&[], alloc)?, 1, "requests for the first mesh")?;
-    let lines = before(block, block.rows.len(), alloc)?;
+fn check_no_run(alloc: Global) -> Result<(), Fail> {
+    let requests = requests_before(&[], 0, alloc)?;
+    same(requests, 1, "requests for the first mesh")?;
     let memory = Refusing::new(alloc);
     memory.refuse(Refusals::One(0));
-    let ran = run_lines(&memory, &lines, alloc);
+    let ran = run_lines(&memory, b"append 0\n", alloc);
     let is_refused = matches!(&ran.ended, Err(RunFault::Memory));
     let is_silent = !ran.has_read && ran.written.is_empty();
     holds(
-        is_refused && is_silent,
+        is_refused && is_silent && memory.requests() == 1,
         "a run without memory for its first mesh",
     )
 }
 
-fn sweep(block: Block, swept: &mut Swept, alloc: Global) -> Result<(), Fail> {
-    check_no_run(block, alloc)?;
-    for (place, row) in block.rows.iter().enumerate() {
-        let requests = refuse(block, place, *row, alloc)?;
+/// Refuses each row, of which the first is at this place among the lines.
+fn refuse_rows(
+    lines: &[&str],
+    begin: usize,
+    rows: &[Row],
+    swept: &mut Swept,
+    alloc: Global,
+) -> Result<(), Fail> {
+    for (place, row) in rows.iter().enumerate() {
+        let requests = number(row.requests)?;
+        refuse(lines, begin.saturating_add(place), *row, requests, alloc)?;
         swept.note(CALL, requests)?;
     }
-    check_seen(block, alloc)
+    Ok(())
+}
+
+/// Checks that what comes after a block makes no request.
+fn check_seen(lines: &[&str], end: usize, alloc: Global) -> Result<(), Fail> {
+    let before = requests_before(lines, end, alloc)?;
+    let all = requests_before(lines, lines.len(), alloc)?;
+    same(all, before, "requests of queries")
+}
+
+/// Adds the lines of a block that have memory, then those of its rows, and what comes after each
+/// block.
+fn push_lines<'a>(
+    lines: &mut Vec<&'a str>,
+    block: &'a str,
+    rows: &[Row<'a>],
+) -> Result<(), AllocError> {
+    push_mesh(lines, block)?;
+    push_rows(lines, rows)?;
+    lines.push(SEEN)?;
+    Ok(())
+}
+
+/// Sweeps the rows of a block, whose lines end in them and in what comes after each block.
+fn sweep(lines: &[&str], rows: &[Row], swept: &mut Swept, alloc: Global) -> Result<(), Fail> {
+    let end = lines.len().saturating_sub(1);
+    let begin = end.saturating_sub(rows.len());
+    refuse_rows(lines, begin, rows, swept, alloc)?;
+    check_seen(lines, end, alloc)
+}
+
+fn sweep_rows<'a>(
+    block: &'a str,
+    rows: &[Row<'a>],
+    swept: &mut Swept,
+    alloc: Global,
+) -> Result<(), Fail> {
+    let mut lines = Vec::new(alloc);
+    push_lines(&mut lines, block, rows)?;
+    sweep(&lines, rows, swept, alloc)
 }
 
 /// Sweeps the lines of a block.
 pub fn sweep_block(block: &str, swept: &mut Swept, alloc: Global) -> Result<(), Fail> {
+    check_no_run(alloc)?;
     let rows = rows_of(block, alloc)?;
-    let block = Block {
-        text: block,
-        rows: &rows,
-    };
-    sweep(block, swept, alloc)
+    sweep_rows(block, &rows, swept, alloc)
 }

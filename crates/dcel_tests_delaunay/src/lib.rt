@@ -1,24 +1,19 @@
-//! Tests of what is in the plane: decimals, predicates, legalization by circles, and Delaunay
-//! triangulations, also with each request for memory refused in turn.
+//! Tests of triangulations, without and with constraints: each request for memory refused in turn, and
+//! calls that no program and no binding makes. What triangulations are is tested in `bindings` and by the
+//! cases of programs.
 #![tactic(auto)]
 
 #[cfg(test)]
 mod circles;
 #[cfg(test)]
-mod decimals;
+mod constrained;
 #[cfg(test)]
-mod lists;
+mod crossings;
+#[cfg(test)]
+mod joins;
 #[cfg(test)]
 mod memory;
 #[cfg(test)]
-mod nearest;
-#[cfg(test)]
-mod positions;
+mod places;
 #[cfg(test)]
 mod predicates;
-#[cfg(test)]
-mod quadruples;
-#[cfg(test)]
-mod removals;
-#[cfg(test)]
-mod triangulations;

@@ -28,29 +28,39 @@ use Handle::{EdgeOf, Face, HalfEdge, Inner, Outer, Vertex};
 /// Handles, each with its text.
 type Texts = &'static [(Handle, &'static str)];
 
-/// In a triangle that vertex 3 cuts into three.
-const TEXTS: Texts = &[
-    (Vertex(3), "VertexHandle(3)"),
+/// The lines of meshes, and texts of handles there.
+const ROWS: [(&str, Texts); 3] = [
+    // A triangle that vertex 3 cuts into three.
     (
-        HalfEdge(6),
-        "DirectedEdgeHandle - id: 6 (FixedHandle { index: 0 } -> FixedHandle { index: 3 })",
+        CUT,
+        &[
+            (Vertex(3), "VertexHandle(3)"),
+            (
+                HalfEdge(6),
+                "DirectedEdgeHandle - id: 6 (FixedHandle { index: 0 } -> FixedHandle { index: 3 })",
+            ),
+            (
+                EdgeOf(6),
+                "UndirectedEdgeHandle - id: 3 (FixedHandle { index: 0 } <-> FixedHandle { index: 3 })",
+            ),
+            (Outer, "OuterFace"),
+            (Inner(1), "FaceHandle - id: 1 (3, 1, 0)"),
+            (Face(1), "FaceHandle - id: 1 (3, 1, 0)"),
+        ],
     ),
+    // A face that a removal has given up has no anchor.
     (
-        EdgeOf(6),
-        "UndirectedEdgeHandle - id: 3 (FixedHandle { index: 0 } <-> FixedHandle { index: 3 })",
+        "triangle 0 1 2\nappend 3\ninsert 3 1\nisolate 3 1 3 5",
+        &[(Inner(2), "FaceHandle - id: 2 (none)")],
     ),
-    (Outer, "OuterFace"),
-    (Inner(1), "FaceHandle - id: 1 (3, 1, 0)"),
-    (Face(1), "FaceHandle - id: 1 (3, 1, 0)"),
-];
-
-/// Once vertex 3 is given up.
-const GIVEN_UP: Texts = &[(Inner(2), "FaceHandle - id: 2 (none)")];
-
-/// In a mesh without edges.
-const EMPTY: Texts = &[
-    (Inner(0), "FaceHandle - id: 0 (none)"),
-    (Outer, "OuterFace"),
+    // Neither has the outer face of a mesh without edges.
+    (
+        "",
+        &[
+            (Inner(0), "FaceHandle - id: 0 (none)"),
+            (Outer, "OuterFace"),
+        ],
+    ),
 ];
 
 fn edge_text(dcel: &Mesh, index: u32, alloc: Global) -> Result<String, Fail> {
@@ -106,20 +116,16 @@ fn check_texts(dcel: &Mesh, texts: Texts, alloc: Global) -> Result<(), Fail> {
     Ok(())
 }
 
-#[test]
-fn handles_print_their_numbers(rt: HostRuntime) -> Result<(), Fail> {
-    check_texts(&grown(rt.alloc(), CUT)?, TEXTS, rt.alloc())
+/// Makes a mesh by its lines, and checks the texts of handles there.
+fn check_row((lines, texts): (&str, Texts), alloc: Global) -> Result<(), Fail> {
+    let dcel = grown(alloc, lines)?;
+    check_texts(&dcel, texts, alloc)
 }
 
-// A face that a removal has given up has no anchor.
 #[test]
-fn a_face_that_is_given_up_prints_none(rt: HostRuntime) -> Result<(), Fail> {
-    let lines = "triangle 0 1 2\nappend 3\ninsert 3 1\nisolate 3 1 3 5";
-    check_texts(&grown(rt.alloc(), lines)?, GIVEN_UP, rt.alloc())
-}
-
-// Neither has the outer face of a mesh without edges.
-#[test]
-fn a_face_of_an_empty_mesh_prints_none(rt: HostRuntime) -> Result<(), Fail> {
-    check_texts(&grown(rt.alloc(), "")?, EMPTY, rt.alloc())
+fn handles_have_texts(rt: HostRuntime) -> Result<(), Fail> {
+    for row in ROWS {
+        check_row(row, rt.alloc())?;
+    }
+    Ok(())
 }

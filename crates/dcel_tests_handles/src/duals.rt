@@ -1,10 +1,10 @@
-//! The ends and sides of edges, the Voronoi diagram, and comparisons of borrowed handles, on a
-//! triangle that vertex 3 cuts into three.
+//! The ends and sides of edges, the half edges round triangles, the Voronoi diagram, and comparisons
+//! of borrowed handles, on a triangle that vertex 3 cuts into three.
 
 use crate::borrowed::{live_half_edge, vertex_of};
 use dcel_bench::checks::same;
 use dcel_bench::lines::{CUT, grown};
-use dcel_bench::meshes::{Mesh, vertex};
+use dcel_bench::meshes::{Mesh, adjacent_edge, inner_face, vertex};
 use dcel_bench::require;
 use spade_dcel::handles::{
     DirectedVoronoiEdge, FaceHandle, PossiblyOuterTag, VertexHandle, VoronoiVertex,
@@ -58,11 +58,6 @@ fn check_sides(dcel: &Mesh) -> Result<(), Fail> {
     Ok(())
 }
 
-#[test]
-fn edges_have_ends_and_sides(rt: HostRuntime) -> Result<(), Fail> {
-    check_sides(&grown(rt.alloc(), CUT)?)
-}
-
 /// The half edge that stands for an edge, the ends of the edge, and whether it is on the hull.
 type Whole = (usize, [usize; 2], bool);
 
@@ -88,11 +83,6 @@ fn check_wholes(dcel: &Mesh) -> Result<(), Fail> {
     Ok(())
 }
 
-#[test]
-fn undirected_edges_are_their_normalized_halves(rt: HostRuntime) -> Result<(), Fail> {
-    check_wholes(&grown(rt.alloc(), CUT)?)
-}
-
 /// Returns whether the face is outer, and its number as an inner one.
 fn side_of(face: FaceHandle<'_, PossiblyOuterTag, i64, i64, i64, i64>) -> (bool, Option<usize>) {
     (face.is_outer(), face.as_inner().map(|inner| inner.index()))
@@ -104,9 +94,22 @@ fn check_faces(dcel: &Mesh) -> Result<(), Fail> {
     same(side_of(face), (false, Some(1)), "an inner face")
 }
 
-#[test]
-fn face_0_alone_is_outer(rt: HostRuntime) -> Result<(), Fail> {
-    check_faces(&grown(rt.alloc(), CUT)?)
+/// Returns the half edges round a triangle.
+fn triangle(dcel: &Mesh, index: u32) -> Result<[usize; 3], Fail> {
+    let handle = inner_face(index);
+    require!(handle.index() != 0);
+    require!(handle.index() < dcel.num_faces());
+    require!(dcel.is_live_face(handle));
+    let around = dcel.face(handle).adjacent_edges();
+    Ok(around.map(|edge| edge.index()))
+}
+
+fn check_triangles(dcel: &Mesh) -> Result<(), Fail> {
+    for (index, edges) in &[(1, [11, 1, 6]), (2, [7, 5, 8]), (3, [9, 3, 10])] {
+        let found = triangle(dcel, *index)?;
+        same(&found, edges, format_args!("face {index}"))?;
+    }
+    same(adjacent_edge(dcel, 0)?, Some(0), "the outer face")
 }
 
 /// The dual of a half edge: its start and its end, and the next, the one before, the face, and the
@@ -151,11 +154,6 @@ fn check_duals(dcel: &Mesh) -> Result<(), Fail> {
     same(ends, [Dual::Outer(0), Dual::Inner(1)], "the dual of edge 0")
 }
 
-#[test]
-fn voronoi_edges_lead_from_face_to_face(rt: HostRuntime) -> Result<(), Fail> {
-    check_duals(&grown(rt.alloc(), CUT)?)
-}
-
 /// Returns the numbers of three Voronoi edges.
 fn numbers(edges: [DirectedVoronoiEdge<'_, i64, i64, i64, i64>; 3]) -> [usize; 3] {
     let [first, second, third] = edges;
@@ -189,11 +187,6 @@ fn check_corners(dcel: &Mesh) -> Result<(), Fail> {
     Ok(())
 }
 
-#[test]
-fn voronoi_vertices_are_faces_or_lie_outside(rt: HostRuntime) -> Result<(), Fail> {
-    check_corners(&grown(rt.alloc(), CUT)?)
-}
-
 /// Returns the vertex of the Voronoi face of a vertex.
 fn center_of(dcel: &Mesh, index: u32) -> Result<usize, Fail> {
     let face = vertex_of(dcel, index)?.as_voronoi_face();
@@ -225,11 +218,6 @@ fn check_round_face(dcel: &Mesh, alloc: Global) -> Result<(), Fail> {
     same(taken, [Some(11), Some(9), Some(7), None], "from the back")?;
     let listed = round_face(dcel, 3, alloc)?;
     same(listed.as_slice(), [7, 9, 11].as_slice(), "edges")
-}
-
-#[test]
-fn voronoi_faces_list_the_edges_round_them(rt: HostRuntime) -> Result<(), Fail> {
-    check_round_face(&grown(rt.alloc(), CUT)?, rt.alloc())
 }
 
 /// Returns whether two vertices are equal, and whether they aren't; whether the first is less, and
@@ -272,19 +260,30 @@ fn hash_of_fixed(index: u32) -> u64 {
     BuildHasherDefault::<FoldHasher>::default().hash_one(vertex(index))
 }
 
-fn check_compared(dcel: &Mesh, other: &Mesh) -> Result<(), Fail> {
-    check_order(dcel, other)?;
+fn check_hashes(dcel: &Mesh, other: &Mesh) -> Result<(), Fail> {
     let hashes = [hash_of(dcel, 2)?, hash_of(other, 2)?];
     same(hashes, [hash_of_fixed(2); 2], "hashes")
 }
 
 fn compare_with_another(dcel: &Mesh, alloc: Global) -> Result<(), Fail> {
     let other = grown(alloc, CUT)?;
-    check_compared(dcel, &other)
+    check_order(dcel, &other)?;
+    check_hashes(dcel, &other)
+}
+
+fn check_all(dcel: &Mesh, alloc: Global) -> Result<(), Fail> {
+    check_sides(dcel)?;
+    check_wholes(dcel)?;
+    check_faces(dcel)?;
+    check_triangles(dcel)?;
+    check_duals(dcel)?;
+    check_corners(dcel)?;
+    check_round_face(dcel, alloc)?;
+    compare_with_another(dcel, alloc)
 }
 
 #[test]
-fn handles_are_compared_by_their_numbers(rt: HostRuntime) -> Result<(), Fail> {
+fn handles_lead_to_what_is_beside_them(rt: HostRuntime) -> Result<(), Fail> {
     let dcel = grown(rt.alloc(), CUT)?;
-    compare_with_another(&dcel, rt.alloc())
+    check_all(&dcel, rt.alloc())
 }

@@ -12,6 +12,4 @@ mod duals;
 mod loops;
 pub mod own_steps;
 #[cfg(test)]
-mod triangles;
-#[cfg(test)]
 mod walks_both_ends;

@@ -73,56 +73,12 @@ fn check_out_edges(dcel: &Mesh) -> Result<(), Fail> {
     Ok(())
 }
 
-#[test]
-fn out_edges_come_from_both_ends(rt: HostRuntime) -> Result<(), Fail> {
-    check_out_edges(&grown(rt.alloc(), CUT)?)
-}
-
-/// The lines of a mesh, and a walk round one of its faces.
-type FaceWalk = (&'static str, Walk);
-
-/// Walks round faces: of a triangle that vertex 3 cuts into three, of the line 2, 0, 1, 3, and of a
-/// mesh without an edge.
-const FACE_EDGES: [FaceWalk; 5] = [
-    (CUT, (0, &[Front, Front, Front, Front], &[0, 2, 4])),
-    (CUT, (1, &[Front, Front, Front, Front], &[1, 6, 11])),
-    (CUT, (2, &[Back, Front, Back, Back], &[7, 5, 8])),
-    (
-        LINE,
-        (
-            0,
-            &[Front, Back, Front, Front, Front, Front, Front],
-            &[0, 2, 5, 4, 1, 3],
-        ),
-    ),
-    ("", (0, &[Front, Back], &[])),
-];
-
+/// Takes from both ends of the half edges round the face with this number.
 fn check_face_edges(dcel: &Mesh, (index, ends, wanted): Walk) -> Result<(), Fail> {
     let face: FixedFaceHandle<PossiblyOuterTag> = FixedFaceHandle::new(index as usize);
     let face = dcel.get_face(face);
     let face = face.ok_or("no such face")?;
     check_taken(face.directed_edges(), ends, wanted)
-}
-
-fn check_face_walk((lines, walk): FaceWalk, alloc: Global) -> Result<(), Fail> {
-    let dcel = grown(alloc, lines)?;
-    check_face_edges(&dcel, walk)
-}
-
-#[test]
-fn half_edges_of_faces_come_from_both_ends(rt: HostRuntime) -> Result<(), Fail> {
-    for row in &FACE_EDGES {
-        check_face_walk(*row, rt.alloc())?;
-    }
-    Ok(())
-}
-
-#[test]
-fn the_hull_comes_from_both_ends(rt: HostRuntime) -> Result<(), Fail> {
-    let dcel = grown(rt.alloc(), CUT)?;
-    let mixed = [Back, Front, Back, Front];
-    check_taken(HullIterator::new(&dcel), &mixed, &[4, 0, 2])
 }
 
 /// Walks from half edges by a step.
@@ -152,12 +108,6 @@ fn check_own_steps(dcel: &Mesh) -> Result<(), Fail> {
     check_walks::<PrevNextBackFn>(dcel, &PREV_WALKS)
 }
 
-#[test]
-fn own_steps_lead_round(rt: HostRuntime) -> Result<(), Fail> {
-    let dcel = grown(rt.alloc(), CUT)?;
-    check_own_steps(&dcel)
-}
-
 /// Returns the number of inner faces left and the next one from the back, four times; and whether
 /// none then comes from the front.
 fn inner_faces_from_the_back(dcel: &Mesh) -> ([(usize, Option<usize>); 4], bool) {
@@ -168,17 +118,6 @@ fn inner_faces_from_the_back(dcel: &Mesh) -> ([(usize, Option<usize>); 4], bool)
         *place = (left, faces.next_back().map(|face| face.index()));
     }
     (taken, faces.next().is_none())
-}
-
-#[test]
-fn inner_faces_come_from_the_back(rt: HostRuntime) -> Result<(), Fail> {
-    let dcel = grown(rt.alloc(), CUT)?;
-    let taken = [(3, Some(3)), (2, Some(2)), (1, Some(1)), (0, None)];
-    same(
-        inner_faces_from_the_back(&dcel),
-        (taken, true),
-        "inner faces",
-    )
 }
 
 /// Returns the number of half edges out of a vertex, from the front and from the back.
@@ -225,12 +164,6 @@ fn check_both_ways(dcel: &Mesh, index: u32) -> Result<(), Fail> {
     check_places(dcel, index)
 }
 
-#[test]
-fn test_cw_iterator(rt: HostRuntime) -> Result<(), Fail> {
-    let dcel = grown(rt.alloc(), CUT)?;
-    check_both_ways(&dcel, 0)
-}
-
 /// The lengths of a mesh's iterators: its vertices, half edges, undirected edges, faces, inner
 /// faces, and hull, and the fixed handles of vertices and faces.
 type Lengths = [usize; 8];
@@ -248,23 +181,52 @@ fn lengths(dcel: &Mesh) -> Lengths {
     ]
 }
 
-/// Meshes by their lines, each with its lengths.
-const LENGTHS: [(&str, Lengths); 4] = [
-    ("", [0, 0, 0, 1, 0, 0, 0, 1]),
-    ("append 0", [1, 0, 0, 1, 0, 0, 1, 1]),
-    (FIRST_EDGE, [2, 2, 1, 1, 0, 2, 2, 1]),
-    (CUT, [4, 12, 6, 4, 3, 3, 4, 4]),
+/// The lines of a mesh, walks round its faces, and its lengths.
+type Row = (&'static str, &'static [Walk], Lengths);
+
+/// A mesh without an edge, one vertex, an edge, the line 2, 0, 1, 3, and a triangle that vertex 3 cuts
+/// into three.
+const ROWS: [Row; 5] = [
+    ("", &[(0, &[Front, Back], &[])], [0, 0, 0, 1, 0, 0, 0, 1]),
+    ("append 0", &[], [1, 0, 0, 1, 0, 0, 1, 1]),
+    (FIRST_EDGE, &[], [2, 2, 1, 1, 0, 2, 2, 1]),
+    (
+        LINE,
+        &[(
+            0,
+            &[Front, Back, Front, Front, Front, Front, Front],
+            &[0, 2, 5, 4, 1, 3],
+        )],
+        [4, 6, 3, 1, 0, 6, 4, 1],
+    ),
+    (
+        CUT,
+        &[
+            (0, &[Front, Front, Front, Front], &[0, 2, 4]),
+            (1, &[Front, Front, Front, Front], &[1, 6, 11]),
+            (2, &[Back, Front, Back, Back], &[7, 5, 8]),
+        ],
+        [4, 12, 6, 4, 3, 3, 4, 4],
+    ),
 ];
 
-fn check_lengths(lines: &str, wanted: Lengths, alloc: Global) -> Result<(), Fail> {
+fn check_walks_round_faces(dcel: &Mesh, walks: &[Walk]) -> Result<(), Fail> {
+    for walk in walks {
+        check_face_edges(dcel, *walk)?;
+    }
+    Ok(())
+}
+
+fn check_row((lines, walks, wanted): Row, alloc: Global) -> Result<(), Fail> {
     let dcel = grown(alloc, lines)?;
-    same(lengths(&dcel), wanted, "lengths")
+    same(lengths(&dcel), wanted, "lengths")?;
+    check_walks_round_faces(&dcel, walks)
 }
 
 #[test]
-fn elements_are_counted(rt: HostRuntime) -> Result<(), Fail> {
-    for (lines, wanted) in &LENGTHS {
-        check_lengths(lines, *wanted, rt.alloc())?;
+fn faces_and_elements_are_walked_and_counted(rt: HostRuntime) -> Result<(), Fail> {
+    for row in ROWS {
+        check_row(row, rt.alloc())?;
     }
     Ok(())
 }
@@ -278,10 +240,33 @@ fn dual_lengths(dcel: &Mesh) -> [usize; 3] {
     ]
 }
 
+/// Checks inner faces, the hull and the diagram.
+fn check_elements(dcel: &Mesh) -> Result<(), Fail> {
+    let taken = [(3, Some(3)), (2, Some(2)), (1, Some(1)), (0, None)];
+    same(
+        inner_faces_from_the_back(dcel),
+        (taken, true),
+        "inner faces",
+    )?;
+    check_taken(
+        HullIterator::new(dcel),
+        &[Back, Front, Back, Front],
+        &[4, 0, 2],
+    )?;
+    same(dual_lengths(dcel), [4, 12, 6], "lengths of the diagram")
+}
+
+fn check_cut(dcel: &Mesh) -> Result<(), Fail> {
+    check_out_edges(dcel)?;
+    check_own_steps(dcel)?;
+    check_both_ways(dcel, 0)?;
+    check_elements(dcel)
+}
+
 #[test]
-fn duals_have_the_numbers_of_their_elements(rt: HostRuntime) -> Result<(), Fail> {
+fn a_cut_triangle_is_walked_from_both_ends(rt: HostRuntime) -> Result<(), Fail> {
     let dcel = grown(rt.alloc(), CUT)?;
-    same(dual_lengths(&dcel), [4, 12, 6], "lengths of the diagram")
+    check_cut(&dcel)
 }
 
 /// Takes half edges from both ends of the longest list of fixed handles that there is.

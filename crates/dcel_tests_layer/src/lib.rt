@@ -1,46 +1,15 @@
-//! Tests of the calls of `spade_dcel` and of commands: what they return, the links and anchors that
-//! result, whole meshes and their data, and what takes memory.
+//! Tests of `spade_dcel` and of commands that only Rattle can say: a caller for each call that reads,
+//! walks or tests, without memory; elements that are lent by number; data mapped by closures and to
+//! another type; room that is reserved; and what lists of commands hand back.
 #![tactic(auto)]
 
 #[cfg(test)]
-mod anchors;
-#[cfg(test)]
-mod calls;
-#[cfg(test)]
-mod carried;
-#[cfg(test)]
-mod clears;
-#[cfg(test)]
-mod counted;
-#[cfg(test)]
-mod degenerate;
-#[cfg(test)]
-mod elements_data;
-#[cfg(test)]
-mod flips;
-#[cfg(test)]
-mod from_squares;
-#[cfg(test)]
-mod from_triangles;
-#[cfg(test)]
-mod given;
-#[cfg(test)]
-mod inside;
-#[cfg(test)]
-mod limits;
-#[cfg(test)]
-mod links;
+mod elements;
 #[cfg(test)]
 mod lists;
 #[cfg(test)]
 mod live;
 #[cfg(test)]
-mod memory;
-#[cfg(test)]
-mod openers;
-#[cfg(test)]
-mod removals;
-#[cfg(test)]
-mod swaps;
+mod memoryless;
 #[cfg(test)]
 mod whole_meshes;

@@ -1,9 +1,10 @@
 //! Borrowed elements by number, None for those that an open removal has given up or that there
-//! aren't.
+//! aren't; and which edges are new. Bindings have calls of their own for these.
 
 use dcel_bench::checks::same;
-use dcel_bench::lines::{CUT, carry_out, grown};
-use dcel_bench::meshes::{Mesh, half_edge, inner_face, undirected_edge};
+use dcel_bench::lines::{CUT, grown, opened};
+use dcel_bench::meshes::{Mesh, half_edge, inner_face, undirected_edge, vertex};
+use spade_dcel::operations::IsolateVertexResult;
 use std::alloc::Global;
 use std::test::Fail;
 
@@ -59,10 +60,21 @@ fn check_lent(dcel: &Mesh, rows: &[Row]) -> Result<(), Fail> {
     Ok(())
 }
 
+/// Checks that the edges from 6 on count as new.
+fn check_new(opened: &IsolateVertexResult) -> Result<(), Fail> {
+    let before = opened.is_new_edge(undirected_edge(5));
+    let first = opened.is_new_edge(undirected_edge(6));
+    same(
+        [before, first],
+        [false, true],
+        "whether edges 5 and 6 are new",
+    )
+}
+
 /// Checks what is lent of a cut triangle before and after vertex 3 is given up.
 fn check_lent_and_opened(dcel: &mut Mesh, alloc: Global) -> Result<(), Fail> {
     check_lent(dcel, &CLOSED)?;
-    carry_out(dcel, "isolate 3 1 3 5", alloc)?;
+    check_new(&opened(dcel, "isolate 3 1 3 5", alloc)?)?;
     check_lent(dcel, &OPEN)
 }
 
@@ -70,4 +82,21 @@ fn check_lent_and_opened(dcel: &mut Mesh, alloc: Global) -> Result<(), Fail> {
 fn what_is_live_is_lent(rt: HostRuntime) -> Result<(), Fail> {
     let mut dcel = grown(rt.alloc(), CUT)?;
     check_lent_and_opened(&mut dcel, rt.alloc())
+}
+
+/// Numbers, each with whether a vertex is found by it.
+const VERTICES: [(u32, bool); 4] = [(0, true), (3, true), (4, false), (4_294_967_295, false)];
+
+fn check_vertices(dcel: &Mesh) -> Result<(), Fail> {
+    for (index, is_there) in VERTICES {
+        let found = dcel.get_vertex(vertex(index)).map(|found| found.index());
+        let wanted = is_there.then_some(index as usize);
+        same(found, wanted, format_args!("vertex {index}"))?;
+    }
+    Ok(())
+}
+
+#[test]
+fn vertices_are_looked_up(rt: HostRuntime) -> Result<(), Fail> {
+    check_vertices(&grown(rt.alloc(), CUT)?)
 }

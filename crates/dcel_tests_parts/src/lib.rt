@@ -1,30 +1,23 @@
-//! Tests of crates below and beside `spade_dcel`: fixed handles, links and anchors that are given,
-//! meshes in and out, calls that combine several, and regions.
+//! Tests of crates below and beside `spade_dcel`: calls that list, make and edit meshes, each with
+//! each of its requests for memory refused; fixed handles; texts of faults; and readers and writers
+//! that fail.
+//!
+//! What these calls do to meshes of all kinds is tested over the library, in `bindings/python/tests`.
 #![tactic(auto)]
 
 #[cfg(test)]
-mod anchors;
+mod callers;
 #[cfg(test)]
 mod closed;
-#[cfg(test)]
-mod convenience;
-#[cfg(test)]
-mod exchange;
-#[cfg(test)]
-mod faces;
 #[cfg(test)]
 mod handles;
 #[cfg(test)]
 mod links;
 #[cfg(test)]
-mod listing;
-#[cfg(test)]
 mod memory;
 #[cfg(test)]
-mod on_meshes;
+mod meshes;
 #[cfg(test)]
-mod regions;
+mod texts;
 #[cfg(test)]
-mod removals;
-#[cfg(test)]
-mod walks;
+mod transfers;

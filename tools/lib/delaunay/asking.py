@@ -4,7 +4,7 @@ import os
 import subprocess
 from pathlib import Path
 
-from delaunay.plane import Wrong
+from delaunay.plane import Wrong, is_line
 
 PROGRAM = os.environ.get("PROGRAM", str(Path(__file__).resolve().parents[3] / "crates/delaunay/out/delaunay"))
 
@@ -25,6 +25,25 @@ def run(path, *words, said=""):
     if last or any(line != line.strip() for line in lines):
         raise Wrong(f"{what} wrote a line that a line feed alone doesn't end")
     return lines
+
+
+def notes_of(points, gone=()):
+    """What is said of points without a triangle, some of which are gone: beside any output, and beside a list of triangles."""
+    if not points:
+        return ("delaunay: the input has no points\n",) * 2
+    left = [point for number, point in enumerate(points) if number not in set(gone)]
+    distinct = sorted(set(left))
+    if not left:
+        why = "all points are removed"
+    elif len(left) == 1:
+        why = "there is only one point"
+    elif len(distinct) == 1:
+        why = f"all {len(left)} points are equal"
+    elif is_line(distinct):
+        why = f"all {len(left)} points are on one line"
+    else:
+        return "", ""
+    return "", f"delaunay: no triangles: {why}\n"
 
 
 def numbers(lines, count):

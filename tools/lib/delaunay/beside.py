@@ -4,7 +4,7 @@ import random
 import tempfile
 from pathlib import Path
 
-from delaunay.asking import numbers, run
+from delaunay.asking import notes_of, numbers, run
 from delaunay.laid import Lists, laid_ones, some_segments
 from delaunay.points import NEAR, somewhere
 
@@ -29,7 +29,7 @@ def written(points, segments):
         given.write_text("".join(f"{x} {y}\n" for x, y in points))
         joined.write_text("".join(f"{a} {b}\n" for a, b in segments))
         outputs = [word for it in WRITTEN for word in (f"--{it}-to", str(folder / it))]
-        run(given, *outputs, *(["--constraints", str(joined)] if segments else []))
+        run(given, *outputs, *(["--constraints", str(joined)] if segments else []), said=notes_of(points)[1])
         found = [numbers((folder / it).read_text().splitlines(), count) for it, count in WRITTEN.items()]
     return Lists(*found[:3], [number for (number,) in found[3]], [], [])
 

@@ -8,7 +8,7 @@ from itertools import combinations
 from pathlib import Path
 from typing import NamedTuple
 
-from delaunay.asking import ended, numbers, run
+from delaunay.asking import ended, notes_of, numbers, run
 from delaunay.plane import (
     Wrong, begun, check_cover, check_hull, check_neighbors, check_words, finds, hull_of, is_line, least_numbers, lies_inside, neighbors_of, rounds,
     turn,
@@ -146,14 +146,15 @@ def told_of(points, gone, pairs, curves):
     """What the program answers about points and joins. If there are curves it writes no words."""
     with tempfile.TemporaryDirectory() as folder:
         words, path = written(folder, points, gone, pairs, curves), f"{folder}/points"
+        said, listed = notes_of(points, gone)
         return Told(
-            numbers(run(path, *words), 3),
-            numbers(run(path, *words, "--neighbors"), 3),
-            numbers(run(path, *words, "--edges"), 2),
-            [number for (number,) in numbers(run(path, *words, "--hull"), 1)],
-            [int(text.split(" ")[0]) for text in run(path, *words, "--stats")],
-            run(path, *words, "--off"),
-            [] if curves else [text.split(" ") for text in run(path, *words, "--words")],
+            numbers(run(path, *words, said=listed), 3),
+            numbers(run(path, *words, "--neighbors", said=listed), 3),
+            numbers(run(path, *words, "--edges", said=said), 2),
+            [number for (number,) in numbers(run(path, *words, "--hull", said=said), 1)],
+            [int(text.split(" ")[0]) for text in run(path, *words, "--stats", said=said)],
+            run(path, *words, "--off", said=listed),
+            [] if curves else [text.split(" ") for text in run(path, *words, "--words", said=said)],
         )
 
 

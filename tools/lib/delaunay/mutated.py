@@ -13,7 +13,7 @@ from delaunay.plane import Wrong, finds
 
 SECONDS = 60
 # What may stand on standard error if a file is taken.
-NOTES = ("delaunay: the scale is ", "delaunay: the file numbers its points from 1")
+NOTES = ("delaunay: no triangles: ", "delaunay: the input has no points", "delaunay: the file numbers its points from 1")
 # Pieces that are put into files.
 PIECES = [b'"', b";", b",", b"\t", b" ", b"\n", b"#", b"\0", b"-", b"nan", b"1e400", b"1e-19", b"99999999999999999999", b"{", b"(", b"[", b"]", b"}", b"\xff", b"\r\n", b"-1", b"0"]
 # How many lines the shorter one of two files has whose times are compared, how much longer the other one is, and how much longer it may take.
@@ -212,7 +212,7 @@ def check_linear():
 
 def self_test():
     """Plants faults into right endings. Returns how many."""
-    taken, refused = Ended(0, b"0 1 2\n", b"delaunay: the scale is 10\n", []), Ended(1, b"", b"delaunay: line 1: a fault\n", [])
+    taken, refused = Ended(0, b"0 1 2\n", b"delaunay: no triangles: there is only one point\n", []), Ended(1, b"", b"delaunay: line 1: a fault\n", [])
     judge(taken, True)
     judge(refused)
     planted = {

@@ -14,7 +14,7 @@ from delaunay.refined import Asked, fault_of, tangent_of
 
 # Decimals that are written have at most so many places more than those that are read, and doubles on a grid none here.
 STEPS = 10**4
-ADDED = re.compile(r"^delaunay: (?:not all triangles are as asked: )?([0-9]+) points were added$", re.MULTILINE)
+ADDED = re.compile(r"^delaunay: (?:not all triangles are as asked: )?([0-9]+) points? w(?:as|ere) added$", re.MULTILINE)
 
 
 class Written(NamedTuple):

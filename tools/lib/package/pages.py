@@ -1,4 +1,4 @@
-"""Pages of `man` for the programs: by help2man from what a program says of itself, and for dcel_run, which says nothing, from docs/LINES.md."""
+"""Pages of `man` for the programs: by help2man from what a program says of itself, and for dcel_run from docs/LINES.md, which says more."""
 
 import os
 import re
@@ -14,7 +14,7 @@ HEAD = """\
 dcel_run - answers lines about a mesh
 
 # SYNOPSIS
-**dcel_run** < *FILE*
+**dcel_run** [*FILE*]
 
 # DESCRIPTION
 """

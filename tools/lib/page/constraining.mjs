@@ -123,11 +123,12 @@ function turnOnce(model, width) {
     return '';
   }
   if (kind === 3) {
-    const number = one();
-    made.move(number, ...point);
+    const number = one(), place = random(3) ? point : model.points[number].map(random(2) ? Number : BigInt);
+    made.move(number, ...place);
+    if (String(place) === String(model.points[number])) return ''; // it stays, with its constraints
     model.take(number);
-    model.points[number] = point;
-    model.split(point);
+    model.points[number] = place;
+    model.split(place);
     return '';
   }
   if (kind === 4 && model.edges.size) {
@@ -178,6 +179,19 @@ function refusalFaults(ConstrainedDelaunay, faults) {
     expect(call, TypeError, /freed/);
   }
   return count;
+}
+
+/** A point that is moved to where it is keeps its constraints, and no list is found anew. Returns how many are moved so. */
+function stayingFaults(ConstrainedDelaunay, faults) {
+  const made = new ConstrainedDelaunay(SQUARE, [[0, 2], [0, 4]]), { triangles, constraints } = made, moves = [[0, 0, 0], [0, -0, 0n], [2, 9, 9], [4, 4n, 5n]];
+  for (const [point, x, y] of moves) {
+    made.move(point, x, y);
+    if (made.constraints !== constraints || made.triangles !== triangles) faults.push(`${point} is moved to where it is, ${x} ${y}, and the constraints are ${made.constraints}`);
+  }
+  if (constraints.length !== 4) faults.push(`of two constraints there are ${constraints}`);
+  made.move(4, 4, 6);
+  if (made.constraints.length !== 2) faults.push(`a point is moved, and the constraints are ${made.constraints}`);
+  return moves.length;
 }
 
 /** A ring of many edges around many points, made and freed again and again, needs no more memory than once. */
@@ -252,5 +266,6 @@ export function constrainingFaults(ConstrainedDelaunay, faults) {
     if (set % 2) model.made.free();
   }
   return { 'calls of constrained triangulations': checked, 'refusals of these': refusalFaults(ConstrainedDelaunay, faults),
+    'points moved to where they are': stayingFaults(ConstrainedDelaunay, faults),
     'constrained triangulations freed': memoryFaults(ConstrainedDelaunay, faults), 'calls of these without memory': refusedMemoryFaults(ConstrainedDelaunay, faults) };
 }

@@ -6,7 +6,8 @@ import re
 SHOWN = {
     "dcel_example::editing::triangle": ["new_triangle"],
     "dcel_example::editing::put_into": ["append_unconnected_vertex", "insert_into_triangle", "Dcel::can_insert_into_triangle"],
-    "dcel_example::editing::take_out": ["isolate_vertex_and_fill_hole", "cleanup_isolated_vertex", "swap_remove_vertex", "DirectedEdgeHandle::next"],
+    "dcel_example::editing::take_out": ["isolate_vertex_and_fill_hole", "cleanup_isolated_vertex", "swap_remove_vertex"],
+    "dcel_example::editing::border_of": ["DirectedEdgeHandle::next"],
     "dcel_example::asking::split": ["split_half_edge", "Dcel::has_room_for"],
     "dcel_example::asking::before": ["DirectedEdgeHandle::prev", "DirectedEdgeHandle::from"],
     "dcel_example::asking::carry_out": ["command::apply"],
@@ -22,10 +23,9 @@ SHOWN = {
     "dcel_example_delaunay::outline::with_segments": ["ConstrainedTriangulation::from_triangulation"],
     "dcel_example_delaunay::outline::show_outline": ["ConstrainedTriangulation::regions"],
     "dcel_example_delaunay::outline::add_side": ["ConstrainedTriangulation::add_constraint"],
-    "dcel_tests_delaunay::positions::kind_at": ["Triangulation::locate"],
-    "dcel_tests_parts::convenience::check_around": ["degree", "dcel_convenience::neighbors"],
-    "dcel_tests_parts::convenience::check_removed": ["dcel_convenience::remove_vertex"],
-    "dcel_tests_parts::faces::made_of": ["from_faces"],
+    "dcel_tests_parts::callers::check_neighbors": ["degree", "dcel_convenience::neighbors"],
+    "dcel_tests_parts::memory::is_removed": ["dcel_convenience::remove_vertex"],
+    "dcel_tests_parts::memory::make": ["from_faces"],
 }
 
 

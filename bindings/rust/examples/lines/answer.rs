@@ -1,6 +1,6 @@
 //! What a line is answered.
 
-use crate::read::Given;
+use super::read::Given;
 use dcel::handles::*;
 use dcel::operations::*;
 use dcel::{Dcel, Refusal};
