@@ -1,4 +1,5 @@
-"""Figures that documents repeat: README's speeds are those of docs/SPEED.md and docs/DELAUNAY.md."""
+"""Figures that documents repeat: README's speeds are those of docs/SPEED.md and docs/DELAUNAY.md, and docs/CALLING.md has the sizes of the
+packages."""
 
 import re
 
@@ -11,6 +12,10 @@ SPEEDS = {
     "flip an edge": ("SPEED", "flip", (3, 5)),
     "triangulate a million random points": ("DELAUNAY", "random 1,000,000", (0, 2)),
 }
+# A row of the table of packages: how the file's name begins and ends, and its size.
+PACKAGE = re.compile(r"^\| `dcel-VERSION([^`]*)` \|.*\| ([\d,]+) kB \|$", re.MULTILINE)
+# By how much a size may differ from what the page says: packages change a little with each commit.
+NEAR = 0.03
 ROW = re.compile(r"^\| ([^|]+) \| ([\d.,]+) ns\b[^|]* \| ([\d.]+) of \w+ \|$", re.MULTILINE)
 
 
@@ -38,6 +43,19 @@ def speed_faults(readme, pages):
         yield f"nothing compares '{name}'"
 
 
+def size_faults(page, sizes):
+    """Packages whose size isn't what the page says, rounded to kilobytes, and packages or rows that have none. `sizes` has the bytes of each
+    file, by its name after the version."""
+    said = {name: int(size.replace(",", "")) for name, size in PACKAGE.findall(page)}
+    for name, size in sizes.items():
+        if name not in said:
+            yield f"docs/CALLING.md has no size of dcel-VERSION{name}, which has {size:,} bytes"
+        elif abs(said[name] * 1000 - size) > NEAR * size:
+            yield f"dcel-VERSION{name} has {size:,} bytes, and docs/CALLING.md says {said[name]:,} kB"
+    for name in sorted(said.keys() - sizes.keys()):
+        yield f"docs/CALLING.md has a size of dcel-VERSION{name}, and there is no such package"
+
+
 def planted_figures():
     """Planted faults that aren't found, and faults found where there are none."""
     pages = {
@@ -48,8 +66,13 @@ def planted_figures():
         f"| {name} | {time} ns a thing | {ratio} of spade |"
         for name, time, ratio in zip(SPEEDS, ("12", "200", "203", "355"), ("0.32", "0.79", "1.72", "0.57"), strict=True)
     )
-    return [f"in sound figures is found {it}" for it in speed_faults(table, pages)] + unseen(
+    packages = "| `dcel-VERSION-py3.whl` | Python | 2.14 | 1,214 kB |\n| `dcel-VERSION.tgz` | JavaScript | none | 98 kB |\n"
+    sizes = {"-py3.whl": 1_214_100, ".tgz": 98_400}
+    return [f"in sound figures is found {it}" for it in (*speed_faults(table, pages), *size_faults(packages, sizes))] + unseen(
         {
+            "another size": size_faults(packages.replace("1,214", "1,264"), sizes),
+            "a package that is missing": size_faults(packages.replace("py3", "py4"), sizes),
+            "a size of no package": size_faults(packages, {"-py3.whl": 1_214_100}),
             "another time": speed_faults(table.replace("355", "356"), pages),
             "another ratio": speed_faults(table.replace("0.57", "0.58"), pages),
             "a row that is missing": speed_faults(table.replace("flip an edge", "flip edges"), pages),

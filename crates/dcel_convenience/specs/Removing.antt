@@ -1,5 +1,5 @@
 -- What a vertex inside triangles leaves where it is taken out, what is returned of it, and why it can't be.
-use Rattle.std.specs.Prelude.{◌≡◌, ◌≢◌, ℕ, ◌-◌, ◌==◌, List, length, map, reverse, Some, None, cond, slice_get}
+use Rattle.std.specs.Prelude.{◌≡◌, ◌≢◌, ◌×◌, ℕ, ◌-◌, ◌==◌, List, length, map, reverse, Some, None, cond, slice_get}
 use Rattle.dcel_convenience.specs.declared.removing.WhyNotRemoved.{WhyNotRemoved}
 use Rattle.dcel_convenience.specs.declared.removing.WhyNotRemoved.TheVariants.{CutVertex, LongFace, NoRoom, NoVertex, NotInside, OutOfMemory, RemovalOpen, SecondEdge, ShortBorder}
 use Rattle.dcel_maps.specs.Borders.{IsBorderLoop}
@@ -39,14 +39,15 @@ module _ {V DE UE F : Type 0} where
     pub inside : IsBorderLoop m.shape (border_round m v) v
     pub room : HasRoom m.shape 0 (length (border_round m v) - 3) (length (border_round m v) - 2)
 
-  -- each reason but the want of memory says what isn't so, and some are never given
+  -- each reason but the want of memory says what isn't so, and that none before it applies; some are never given
   abbrev pub MayNotRemove : Mesh V DE UE F → ℕ → WhyNotRemoved → Type 0
   MayNotRemove m v RemovalOpen = m.shape.removal ≢ Closed
-  MayNotRemove m v NotInside = ¬ IsBorderLoop m.shape (border_round m v) v
+  MayNotRemove m v NotInside = (m.shape.removal ≡ Closed) × ¬ IsBorderLoop m.shape (border_round m v) v
   MayNotRemove m v NoVertex = ⊥
   MayNotRemove m v LongFace = ⊥
   MayNotRemove m v CutVertex = ⊥
   MayNotRemove m v ShortBorder = ⊥
   MayNotRemove m v SecondEdge = ⊥
-  MayNotRemove m v NoRoom = ¬ HasRoom m.shape 0 (length (border_round m v) - 3) (length (border_round m v) - 2)
+  MayNotRemove m v NoRoom = (m.shape.removal ≡ Closed) × IsBorderLoop m.shape (border_round m v) v
+      × ¬ HasRoom m.shape 0 (length (border_round m v) - 3) (length (border_round m v) - 2)
   MayNotRemove m v OutOfMemory = Unit {0}

@@ -53,8 +53,8 @@ pub record AreDelaunayTriangles (points : List Point) (triangles : List Triangle
       (point_numbered points u.first) (point_numbered points u.second) (point_numbered points u.third)
   pub covers : AreOnLine points ⊎ ((p : Place) → LiesAmong points p → LiesInOneOf points triangles p)
 
--- so many of the points differ that a mesh may have no numbers for all: n vertices have up to 3n - 3 edges, the next one brings three more, and
--- there are 2^31 numbers of edges
+-- so many different points that edge numbers may run out: n vertices have at most 3n - 3 edges, another vertex adds three, and there are 2^31
+-- edge numbers
 pub record AreTooMany (points : List Point) : Type 0 where
   pub different : List Point
   pub from : All (Contains points) different

@@ -406,9 +406,9 @@ from -9007199254740992 to 9007199254740992 then. Unless it is 1, --stats and --t
 error which power that is. What is written has the coordinates that were given.
 
 With --grid any decimals of up to 25 digits between -2^63 and 2^63 are taken, as doubles are
-written: each coordinate is rounded to the nearest multiple of the finest power of two for which all
-are from -2^53 to 2^53 times it. Standard error says how many points that moves, and how far. What
-is written has the coordinates of the grid, exactly.
+written: each coordinate is rounded to the nearest multiple of the finest power of two, at least
+2^-96, for which all are from -2^53 to 2^53 times it. Standard error says how many points that
+moves, and how far. What is written has the coordinates of the grid, exactly.
 
 Each line of the output has the numbers of a triangle's three corners, counterclockwise, the least
 first. Triangles are numbered from 0 in that order. --voronoi writes 'corner X Y' for each triangle,
