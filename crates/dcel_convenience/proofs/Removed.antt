@@ -1,7 +1,8 @@
 -- A vertex taken out: what the hole that is filled and the cleanup leave.
 use Rattle.std.proofs.Common.{◌≡◌, ◌∙◌, inr, ℕ, ◌-◌, ◌≤◌, ◌==◌, List, [], ◌∷◌, length, map, reverse, Option, Some, None, cond, slice_get, refl, sym, ap, subst, arith}
 use Rattle.std.proofs.lemmas.List.{length-reverse}
-use Rattle.dcel_convenience.specs.Removing.{CanRemoveVertex, TakesOut, border_from, border_round}
+use Rattle.dcel_convenience.specs.Removing.{CanRemoveVertex, MayNotRemove, TakesOut, border_from, border_round}
+use Rattle.dcel_convenience.specs.declared.removing.WhyNotRemoved.TheVariants.{NoRoom}
 use Rattle.dcel_maps.specs.Borders.{IsBorderLoop}
 use Rattle.dcel_maps.specs.Conditions.{CanSwapRemove, HasRoom}
 use Rattle.dcel_maps.specs.Removals.{Closed, IsListed, Removal, ascending, opened}
@@ -20,6 +21,12 @@ room_is s edges faces vertices long n none more_edges more_faces is room =
     subst (λ (k : ℕ). HasRoom s 0 (k - 3) (k - 2)) is
     (subst (λ (k : ℕ). HasRoom s 0 (long - 3) k) more_faces (subst (λ (k : ℕ). HasRoom s 0 k faces) more_edges (subst (λ (k : ℕ). HasRoom s k edges faces) none room)))
 
+-- the room that is lacking, in the same way
+pub lacks_room : (s : Shape) (edges faces vertices long n : ℕ) → vertices ≡ 0 → edges ≡ long - 3 → faces ≡ long - 2 → long ≡ n → ¬ HasRoom s vertices edges faces → ¬ HasRoom s 0 (n - 3) (n - 2)
+lacks_room s edges faces vertices long n none more_edges more_faces is lacks room =
+    let wide = subst (λ (k : ℕ). HasRoom s 0 (k - 3) (k - 2)) (sym is) room in
+    lacks (subst (λ (k : ℕ). HasRoom s k edges faces) (sym none) (subst (λ (k : ℕ). HasRoom s 0 k faces) (sym more_edges) (subst (λ (k : ℕ). HasRoom s 0 (long - 3) k) (sym more_faces) wide)))
+
 module _ {V DE UE F : Type 0} where
   -- the border from the anchor of a vertex
   pub round_is : (m lent : Mesh V DE UE F) (v k : ℕ) (border : List ℕ) → border ≡ border_from lent.shape k → lent ≡ m → Some k ≡ vertex_anchor m v → border ≡ border_round m v
@@ -34,6 +41,15 @@ module _ {V DE UE F : Type 0} where
     inside = subst (λ (list : List ℕ). IsBorderLoop m.shape list v) is inside;
     room = subst (λ (list : List ℕ). HasRoom m.shape 0 (length list - 3) (length list - 2)) is room;
   }
+
+  -- the vertex is inside, and numbers are lacking
+  pub no_room : (m : Mesh V DE UE F) (v : ℕ) (border : List ℕ) → border ≡ border_round m v → m.shape.removal ≡ Closed → IsBorderLoop m.shape border v
+      → ¬ HasRoom m.shape 0 (length border - 3) (length border - 2) → MayNotRemove m v NoRoom
+  no_room m v border is closed inside lacks = (
+    closed,
+    subst (λ (list : List ℕ). IsBorderLoop m.shape list v) is inside,
+    subst (λ (list : List ℕ). ¬ HasRoom m.shape 0 (length list - 3) (length list - 2)) is lacks,
+  )
 
   loop-removal : (m : Mesh V DE UE F) (r : Removal) (ring : List ℕ) (h : List DE) (e : List UE) (f : List F) → 3 ≤ length ring → (loop_filled m r ring h e f).shape.removal ≡ r
   loop-removal m r [] h e f many = absurd (omega (arith, many))

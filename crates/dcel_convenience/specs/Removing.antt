@@ -1,5 +1,5 @@
 -- What a vertex inside triangles leaves where it is taken out, what is returned of it, and why it can't be.
-use Rattle.std.specs.Prelude.{◌≡◌, ◌≢◌, ◌×◌, ℕ, ◌-◌, ◌==◌, List, length, map, reverse, Some, None, cond, slice_get}
+use Rattle.std.specs.Prelude.{◌≡◌, ◌≢◌, ℕ, ◌-◌, ◌==◌, List, length, map, reverse, Some, None, cond, slice_get}
 use Rattle.dcel_convenience.specs.declared.removing.WhyNotRemoved.{WhyNotRemoved}
 use Rattle.dcel_convenience.specs.declared.removing.WhyNotRemoved.TheVariants.{CutVertex, LongFace, NoRoom, NoVertex, NotInside, OutOfMemory, RemovalOpen, SecondEdge, ShortBorder}
 use Rattle.dcel_maps.specs.Borders.{IsBorderLoop}
