@@ -12,13 +12,15 @@ import threading
 import unittest
 from array import array
 from collections.abc import Callable
+from ctypes import c_uint64
 from decimal import Decimal
 from fractions import Fraction
 from pathlib import Path
 from typing import Any
 from unittest import mock
 
-from dcel import DcelError, Delaunay, Grid, Inexact, NoMesh, OutOfMemory, OutOfRange, Place
+from dcel import DcelError, Delaunay, Grid, Inexact, NoMesh, OutOfMemory, OutOfRange, Place, _declared
+from dcel._calls import library
 from interrupting import interrupted
 
 sys.path.append(str(Path(__file__).resolve().parents[3] / "tools/lib"))
@@ -112,6 +114,24 @@ class Triangles(unittest.TestCase):
     def test_line(self) -> None:
         for count in range(4):
             self.assertEqual(len(Delaunay([(it, 2 * it) for it in range(count)]).simplices), 0)
+
+
+class Raw(unittest.TestCase):
+    """The call of the library that keeps no triangulation, which the class never makes."""
+
+    def test_thousands(self) -> None:
+        """Half of the points equal others. Triangles have the first of these, go counterclockwise, and are as large together as the hull."""
+        points = [(it * 379 % 2503, it * it % 2503) for it in range(5000)]
+        given, found, needed, row = (_declared.Point * 5000)(*points), (_declared.Triangle * 10_000)(), c_uint64(), c_uint64()
+        library.dcel_triangulate(given, 5000, found, 10_000, needed, row)
+        self.assertEqual(needed.value, Delaunay(points).nsimplex)
+        self.assertGreater(needed.value, 4096)
+        firsts = {point: number for number, point in reversed([*enumerate(points)])}
+        triangles = [(it.first, it.second, it.third) for it in found[: needed.value]]
+        self.assertTrue(all(firsts[points[corner]] == corner for it in triangles for corner in it))
+        areas = [area(*(points[corner] for corner in it)) for it in triangles]
+        self.assertGreater(min(areas), 0)
+        self.assertEqual(sum(areas), hull_area(points))
 
 
 class In(unittest.TestCase):

@@ -274,14 +274,16 @@ const HUB: Places = &[
 ];
 
 const SQUARE: Places = &[(0, 0), (4, 0), (4, 4), (0, 4), (2, 2)];
+const MIDDLE: Places = &[(2, 2), (0, 0), (4, 0), (4, 4), (0, 4)];
 const BETWEEN: Places = &[(0, 0), (2, 0), (4, 0), (4, 4), (0, 4), (2, 1)];
 const FOUR: Places = &[(0, 0), (-2, 0), (2, -3), (1, 0), (2, 3)];
 const FAN: Places = &[(0, 3), (0, 0), (1, 0), (2, 0), (5, 0)];
 const LINE: Places = &[(0, 0), (1, 1), (2, 2), (3, 3)];
 
-const REMOVALS: [Removal; 15] = [
+const REMOVALS: [Removal; 16] = [
     // Inside: the middle of a square, vertices of three edges and of four that can't be flipped.
     (SQUARE, 4, None, [4, 5, 2]),
+    (MIDDLE, 0, Some(4), [4, 5, 2]),
     (&[(0, 0), (6, 0), (1, 1), (0, 6)], 2, Some(3), [3, 3, 1]),
     (FOUR, 0, Some(4), [4, 6, 3]),
     (HUB, 0, Some(8), [8, 13, 6]),
@@ -338,8 +340,21 @@ fn a_grid_is_removed() {
 /// A point, and what is there.
 type Located = (i64, i64, &'static str);
 
+/// Nine points of a grid, each next to the one before it.
+const GRID: Places = &[
+    (0, 0),
+    (2, 0),
+    (4, 0),
+    (4, 2),
+    (2, 2),
+    (0, 2),
+    (0, 4),
+    (2, 4),
+    (4, 4),
+];
+
 /// Where points are, as a walk from each vertex finds it, and from a number that none has.
-const LOCATED: [(Places, &[Located]); 6] = [
+const LOCATED: [(Places, &[Located]); 7] = [
     (&[], &[(3, 4, "nothing")]),
     (&[(3, 3)], &[(3, 3, "vertex"), (3, 4, "nothing")]),
     (
@@ -364,6 +379,18 @@ const LOCATED: [(Places, &[Located]); 6] = [
             (3, 2, "face"),
             (5, 0, "outside"),
             (2, -1, "outside"),
+        ],
+    ),
+    (
+        GRID,
+        &[
+            (2, 2, "vertex"),
+            (4, 0, "vertex"),
+            (1, 0, "edge"),
+            (2, 3, "edge"),
+            (3, 1, "edge"),
+            (4, 3, "edge"),
+            (5, 5, "outside"),
         ],
     ),
     (

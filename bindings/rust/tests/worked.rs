@@ -189,9 +189,12 @@ fn positions_are_told_apart() {
             &[[0, 1]],
             &[
                 (3, 0, "edge"),
+                (2, 1, "edge"),
                 (4, 1, "face"),
+                (4, -1, "face"),
                 (4, 2, "vertex"),
                 (9, 0, "outside"),
+                (0, 9, "outside"),
             ],
         ),
         (
@@ -201,6 +204,7 @@ fn positions_are_told_apart() {
                 (0, 0, "face"),
                 (40, 0, "face"),
                 (0, 1, "face"),
+                (1, 0, "face"),
                 (-50, 0, "edge"),
                 (20, -3, "vertex"),
                 (400, 10, "outside"),
@@ -244,7 +248,7 @@ fn vertices_go_with_their_constraints() {
     let square = [(0, 0), (4, 0), (4, 4), (0, 4), (2, 2)];
     let spokes: Vec<Ends> = (1..7).map(|end| [0, end]).collect();
     // What is removed, and the numbers of vertices, edges, inner faces and constraints that are left.
-    let rows: [(Places, &[Ends], usize, [usize; 4]); 9] = [
+    let rows: [(Places, &[Ends], usize, [usize; 4]); 10] = [
         // The middle of a square, beside a constraint, and on one, where another one ends.
         (&square, &[[0, 1]], 4, [4, 5, 2, 1]),
         (&square, &[[0, 2], [4, 1], [2, 3]], 4, [4, 5, 2, 1]),
@@ -256,7 +260,9 @@ fn vertices_go_with_their_constraints() {
         (&grid, &[[7, 10], [13, 16], [0, 30]], 8, [35, 82, 48, 9]),
         (&grid, &[[0, 30], [0, 35]], 12, [35, 83, 49, 8]),
         (&grid, &[[0, 30], [0, 35]], 0, [35, 83, 49, 8]),
+        // A vertex of a line, and one of two.
         (LINE, &[[0, 3]], 1, [3, 2, 0, 1]),
+        (&[(0, 0), (1, 0)], &[[0, 1]], 0, [1, 0, 0, 0]),
     ];
     for (places, segments, vertex, left) in rows {
         let (mut triangulation, mut wanted) = laid(places, segments);
