@@ -136,13 +136,10 @@ fn put_first(mesh: &mut PlanarMesh<(), Global>) -> Result<(), Fail> {
     let place = point(3, 4)?;
     require!(mesh.is_whole());
     require!(is_delaunay(mesh.dcel()));
-    let position = mesh.locate(half_edge(0), place);
-    same(
-        position,
-        PositionInTriangulation::NoTriangulation,
-        "where it is",
-    )?;
-    let first = mesh.put_at(position, place)?;
+    let PositionInTriangulation::NoTriangulation = mesh.locate(half_edge(0), place) else {
+        return Err(Fail::new("a mesh of no points has no places"));
+    };
+    let first = mesh.put_at(PositionInTriangulation::NoTriangulation, place)?;
     require!(first.index() < mesh.dcel().num_vertices());
     holds(!has_constraint_at(mesh, first), "no constraint ends there")
 }

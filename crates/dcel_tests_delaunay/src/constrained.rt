@@ -577,35 +577,36 @@ fn calls_are_refused_memory(rt: HostRuntime) -> Result<(), Fail> {
     Ok(())
 }
 
-/// Loads points and the sides of a square with the request of this number refused, or copies a
-/// triangulation. Returns how many there are of constraints and vertices, and whether it came.
-fn load_refused(
-    memory: Memory,
-    points: &[Point],
-    segments: &[Segment],
-    number: u64,
-) -> (End, bool) {
+/// Two segments, of which one is on the other's line.
+const SEGMENTS: [Segment; 2] = [Segment { from: 0, to: 1 }, Segment { from: 2, to: 0 }];
+
+/// Loads points and segments. Returns how many constraints and vertices there are, and None where
+/// memory ran out.
+fn load(memory: Memory, points: &[Point]) -> Result<Option<usize>, Fail> {
+    match ConstrainedTriangulation::bulk_load(memory, points, &SEGMENTS) {
+        Ok((made, vertices)) => Ok(Some(made.num_constraints().saturating_add(vertices.len()))),
+        Err(LoadError::OutOfMemory) => Ok(None),
+        Err(_) => Err(Fail::new("segments cross, or end nowhere")),
+    }
+}
+
+/// Loads with the request of this number refused. Returns whether it came.
+fn load_refused(memory: Memory, points: &[Point], number: u64) -> Result<bool, Fail> {
     memory.refuse(Refusals::One(number));
-    let end = match ConstrainedTriangulation::bulk_load(memory, points, segments) {
-        Ok((made, vertices)) => End::Done(made.num_constraints().saturating_add(vertices.len())),
-        Err(LoadError::OutOfMemory) => End::OutOfMemory,
-        Err(_) => End::Unfinished,
-    };
+    let loaded = load(memory, points);
     let came = memory.requests() > number;
     memory.refuse(Refusals::None);
-    (end, came)
+    let wanted = if came { None } else { Some(6) };
+    same(loaded?, wanted, format_args!("request {number}"))?;
+    Ok(came)
 }
 
 #[test]
 fn loads_are_refused_memory(rt: HostRuntime) -> Result<(), Fail> {
     let memory = Refusing::new(rt.alloc());
     let points = points_at(&KITE, rt.alloc())?;
-    let segments = [Segment { from: 0, to: 1 }, Segment { from: 2, to: 0 }];
     for number in 0..MANY {
-        let (end, came) = load_refused(&memory, &points, &segments, number);
-        let wanted = if came { End::OutOfMemory } else { End::Done(6) };
-        same(end, wanted, format_args!("request {number}"))?;
-        if !came {
+        if !load_refused(&memory, &points, number)? {
             return same(number, 14, "requests");
         }
     }

@@ -29,7 +29,7 @@ struct Row {
 /// The largest coordinate.
 const MOST: i64 = 9_007_199_254_740_992;
 
-const ROWS: [Row; 4] = [
+const ROWS: [Row; 5] = [
     Row {
         places: &KITE,
         marked: &[(0, 1)],
@@ -39,6 +39,17 @@ const ROWS: [Row; 4] = [
         y: (0, 0, 0),
         along: (16, 32),
         nearest: (4, 0),
+    },
+    // Two edges that are no constraints are in the way too.
+    Row {
+        places: &[(5, 4), (5, -4), (-3, 0), (21, 0), (13, 3), (13, -3)],
+        marked: &[(0, 1)],
+        segment: (2, 3),
+        count: 1,
+        x: (0, 0, 960),
+        y: (0, 0, 0),
+        along: (64, 192),
+        nearest: (5, 0),
     },
     // At (-430 / 121, -43 / 121), with a constraint beside that isn't crossed.
     Row {
