@@ -80,10 +80,3 @@ module _ {DE UE F : Type 0} where
       ]
     ];
   }
-
-  -- a mesh that the circle test finds Delaunay
-  pub triangulation_of : (m : Mesh Point DE UE F) → IsTriangleMesh m → IsLocallyDelaunay (point_at m) m.shape → IsFlat m ⊎ HasHull m → IsTriangulation m
-  triangulation_of m is delaunay hull = record {
-    sound = record { triangulated = is; listed = λ u inner circled. absurd (delaunay.empty u inner circled) };
-    hull = hull;
-  }

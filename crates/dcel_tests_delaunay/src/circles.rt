@@ -135,7 +135,6 @@ fn a_path_is_no_triangulation(rt: HostRuntime) -> Result<(), Fail> {
 fn put_first(mesh: &mut PlanarMesh<(), Global>) -> Result<(), Fail> {
     let place = point(3, 4)?;
     require!(mesh.is_whole());
-    require!(is_delaunay(mesh.dcel()));
     let position = mesh.locate(half_edge(0), place);
     same(
         position,
