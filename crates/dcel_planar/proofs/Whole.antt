@@ -5,7 +5,7 @@ use Rattle.dcel_maps.specs.Removals.{Closed, gives_up_face}
 use Rattle.dcel_maps.specs.Shapes.{Mesh, face_count, face_of}
 use Rattle.dcel_maps.proofs.Liveness.{is_live-parts}
 use Rattle.dcel_predicates.specs.declared.point.Point.{Point}
-use Rattle.dcel_plane.specs.Plane.{IsLocallyDelaunay, ListsCircled, point_at}
+use Rattle.dcel_plane.specs.Plane.{ListsCircled, point_at}
 use Rattle.dcel_planar.specs.Growing.{HasHull, HasOutside, IsFlat, IsJoined, IsOpen, IsDelaunayBut, IsTriangleMesh, IsTriangulation, IsInProgress}
 use Rattle.dcel_planar.proofs.Counting.{alone_triangles}
 
