@@ -12,14 +12,13 @@ use Rattle.dcel_maps.proofs.Counted.{words-length, words-total}
 use Rattle.dcel_maps.proofs.Liveness.{closed-live, gives_up_face-closed, gives_up_face-outer, is_live-from}
 use Rattle.dcel_maps.proofs.maps.Counts.{count_all}
 use Rattle.dcel_maps.proofs.walks.Lengths.{count-le}
-use Rattle.dcel_plane.specs.Plane.{origin_point}
 use Rattle.dcel_planar.specs.Outcomes.{IsWholeMesh}
 use Rattle.dcel_planar.specs.declared.errors.InsertionError.{InsertionError}
 use Rattle.dcel_planar.specs.declared.errors.InsertionError.TheVariants.{OutOfMemory, OutOfRange, TooManyPoints, Unfinished}
 use Rattle.dcel_planar.specs.declared.planar.PlanarMesh.{PlanarMesh}
 use Rattle.dcel_delaunay.specs.Bulk.{AddsVertices, FailsToInsertAll}
 use Rattle.dcel_delaunay.specs.Triangulated.{PointsAreSingle}
-use Rattle.dcel_delaunay.specs.Triangles.{AreTooMany, FailsToTriangulate, point_numbered}
+use Rattle.dcel_delaunay.specs.Triangles.{AreTooMany, FailsToTriangulate}
 use Rattle.dcel_delaunay.proofs.listing.Known.{Points}
 
 -- Euler's formula, and each inner face has three half edges
