@@ -21,7 +21,6 @@ pub mod PartsLaid
 pub mod Already
 pub mod Through
 pub mod Lays
-pub mod Missed
 pub mod Splits
 pub mod Added
 pub mod Marked

@@ -6,7 +6,6 @@ pub mod Intersections
 pub mod Laying
 pub mod Loading
 pub mod Meeting
-pub mod Missing
 pub mod Reached
 pub mod Rejoining
 pub mod Removing

@@ -23,7 +23,6 @@ use Rattle.dcel_maps.proofs.words.Reading.{stands_in_face}
 use Rattle.dcel_predicates.specs.declared.point.Point.{Point}
 use Rattle.dcel_plane.specs.Plane.{point_at}
 use Rattle.dcel_plane.proofs.covering.Triangles.{round}
-use Rattle.dcel_plane.proofs.removal.Cleaned.{cleaned_is}
 use Rattle.dcel_plane.proofs.removal.Deleting.{by_three, hole}
 use Rattle.dcel_plane.proofs.removal.Holes.{IsHole, hole_is}
 use Rattle.dcel_planar.specs.Growing.{IsTriangleMesh}

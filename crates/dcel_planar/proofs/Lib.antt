@@ -13,6 +13,7 @@ pub mod Flat
 pub mod GoingOn
 pub mod Growth
 pub mod Hull
+pub mod Missed
 pub mod OnEdges
 pub mod Opening
 pub mod OthersEmpty

@@ -8,7 +8,7 @@ use Rattle.dcel_plane.specs.Plane.{IsLocallyDelaunay, point_at}
 use Rattle.dcel_plane.specs.location.Locating.{HasBeyond, Walks}
 use Rattle.dcel_plane.proofs.location.Ending.{few_faces}
 use Rattle.dcel_plane.proofs.location.Exact.{stepped_out}
-use Rattle.dcel_planar.specs.Growing.{IsDelaunayBut}
+use Rattle.dcel_planar.specs.Growing.{IsDelaunayBut, IsTriangleMesh}
 use Rattle.dcel_planar.specs.Places.{HasLeft}
 
 module _ {DE UE F : Type 0} (m : Mesh Point DE UE F) where
@@ -28,15 +28,15 @@ module _ {DE UE F : Type 0} (m : Mesh Point DE UE F) where
       let many = comes.2 in
       (h ∷ comes.0, (beyond, refl, subst (λ (i : ℕ). Walks (point_at m) s p g comes.0 i) (sym on) comes.1), omega (arith, many))
 
-  module _ (mesh : IsMesh m) (sound : IsDelaunayBut m []) where
+  module _ (mesh : IsMesh m) (sound : IsTriangleMesh m) where
     -- from a triangle to the next, or out of the hull
     pub stepped : (p : Point) (h : ℕ) → HasBeyond (point_at m) s p h → IsLive s (rev h) × HasLeft m p (rev h)
     stepped p h beyond = stepped_out m mesh sound.triangles (point_at m) sound.plane p h beyond
 
-    -- there are more faces than steps
-    pub comes_few : (p : Point) (g h steps : ℕ) → IsLive s h → 0 < face_of s h → Comes p g (face_of s h) steps → steps < face_count s
-    comes_few p g h steps live inner comes =
-        let few = few_faces m mesh sound.triangles (point_at m) (delaunay sound) p g h comes.0 live inner comes.1 in
+    -- where no edge is to be flipped, there are more faces than steps
+    pub comes_few : IsLocallyDelaunay (point_at m) s → (p : Point) (g h steps : ℕ) → IsLive s h → 0 < face_of s h → Comes p g (face_of s h) steps → steps < face_count s
+    comes_few empty p g h steps live inner comes =
+        let few = few_faces m mesh sound.triangles (point_at m) empty p g h comes.0 live inner comes.1 in
         let all = count-le (face_is_live s) (face_count s) in
         let many = comes.2 in
         omega (arith, few, all, many)

@@ -5,7 +5,7 @@ use Rattle.dcel_maps.specs.Removals.{Closed, gives_up_face}
 use Rattle.dcel_maps.specs.Shapes.{Mesh, face_count, face_of}
 use Rattle.dcel_maps.proofs.Liveness.{is_live-parts}
 use Rattle.dcel_predicates.specs.declared.point.Point.{Point}
-use Rattle.dcel_plane.specs.Plane.{IsLocallyDelaunay, ListsCircled, point_at}
+use Rattle.dcel_plane.specs.Plane.{ListsCircled, point_at}
 use Rattle.dcel_planar.specs.Growing.{HasHull, HasOutside, IsFlat, IsJoined, IsOpen, IsDelaunayBut, IsTriangleMesh, IsTriangulation, IsInProgress}
 use Rattle.dcel_planar.proofs.Counting.{alone_triangles}
 
@@ -79,11 +79,4 @@ module _ {DE UE F : Type 0} where
         | inr (some, stays) ↦ absurd (some none)
       ]
     ];
-  }
-
-  -- a mesh that the circle test finds Delaunay
-  pub triangulation_of : (m : Mesh Point DE UE F) → IsTriangleMesh m → IsLocallyDelaunay (point_at m) m.shape → IsFlat m ⊎ HasHull m → IsTriangulation m
-  triangulation_of m is delaunay hull = record {
-    sound = record { triangulated = is; listed = λ u inner circled. absurd (delaunay.empty u inner circled) };
-    hull = hull;
   }

@@ -3,6 +3,7 @@ pub mod Edges
 pub mod Growing
 pub mod Leaving
 pub mod Legalization
+pub mod Missing
 pub mod Outcomes
 pub mod Places
 pub mod Turning

@@ -33,7 +33,6 @@ pub use dcel_predicates::Point;
 pub use errors::InsertionError;
 pub use insert::{edges_of, outside_of};
 pub use legalize::legalize_by_circles;
-pub use location::at_a_vertex;
 pub use mesh::{Edge, EdgeMesh, Mesh, Vertex, point_of, side};
 pub use planar::PlanarMesh;
 pub use planes::{is_delaunay, is_plane};

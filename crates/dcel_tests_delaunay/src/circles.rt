@@ -135,7 +135,6 @@ fn a_path_is_no_triangulation(rt: HostRuntime) -> Result<(), Fail> {
 fn put_first(mesh: &mut PlanarMesh<(), Global>) -> Result<(), Fail> {
     let place = point(3, 4)?;
     require!(mesh.is_whole());
-    require!(is_delaunay(mesh.dcel()));
     let PositionInTriangulation::NoTriangulation = mesh.locate(half_edge(0), place) else {
         return Err(Fail::new("a mesh of no points has no places"));
     };

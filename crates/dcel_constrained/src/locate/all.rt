@@ -8,7 +8,7 @@ ghost use Rattle.dcel_planar.specs.Outcomes.{IsWholeMesh};
 ghost use Rattle.dcel_planar.specs.Places.{IsPlace};
 
 use crate::bulk::{item_of, note};
-use crate::locate::{locate_from, newest};
+use crate::locate::newest;
 use crate::triangulation::ConstrainedTriangulation;
 use dcel_delaunay::insertion_order;
 use dcel_planar::{EdgeMesh, PlanarMesh, Point, PositionInTriangulation};
@@ -58,7 +58,7 @@ fn locate_numbered<UE, A: Allocator, B: Allocator>(
     let Some(point) = item_of(points, number) else {
         return start;
     };
-    let position = locate_from(planar, start, point);
+    let position = planar.locate(start, point);
     note(positions, number, position);
     half_at(&planar.dcel, &position).unwrap_or(start)
 }

@@ -18,10 +18,7 @@ use spade_dcel::laws::every_mesh;
 use std::alloc::Allocator;
 
 /// Returns where a point is if there is no edge: at a vertex, or at none.
-///
-/// Asks for a mesh without an edge (`num_undirected_edges() == 0`) and without an inner face
-/// (`num_faces() == 1`).
-pub fn at_a_vertex<UE, A: Allocator>(
+pub(crate) fn at_a_vertex<UE, A: Allocator>(
     dcel: &EdgeMesh<UE, A>,
     point: Point,
 ) -> PositionInTriangulation

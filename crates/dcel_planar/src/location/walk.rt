@@ -1,15 +1,14 @@
 //! Where a point is: a walk from triangle to triangle.
 
-ghost use Rattle.std.specs.Prelude.{◌≡◌, ◌≢◌, ◌<◌, [], IfErr, IfOk};
+ghost use Rattle.std.specs.Prelude.{◌≡◌, ◌≢◌, ◌<◌, IfErr, IfNone, IfOk, IfSome};
 ghost use Rattle.spade_dcel.specs.Handles.{mesh_behind, number_of};
 ghost use Rattle.dcel_maps.specs.Removals.{Closed};
 ghost use Rattle.dcel_maps.specs.Shapes.{IsLive, face_of, next_of, prev_of};
-ghost use Rattle.dcel_plane.specs.Plane.{point_at};
+ghost use Rattle.dcel_plane.specs.Plane.{IsLocallyDelaunay, point_at};
 ghost use Rattle.dcel_plane.specs.location.Locating.{HasBeyond};
-ghost use Rattle.dcel_planar.specs.Growing.{HasHull, IsDelaunayBut, IsTriangleMesh, IsTriangulation};
+ghost use Rattle.dcel_planar.specs.Growing.{HasHull, IsTriangleMesh};
 ghost use Rattle.dcel_planar.specs.Places.{LiesAtSides, IsPlace, LiesAt};
 
-use crate::location::line;
 use crate::mesh::{Edge, EdgeMesh, side};
 use crate::position::PositionInTriangulation;
 use dcel_predicates::{Point, Side};
@@ -17,29 +16,8 @@ use spade_dcel::handles::{FixedDirectedEdgeHandle, FixedFaceHandle, InnerTag};
 use spade_dcel::laws::every_mesh;
 use std::alloc::Allocator;
 
-/// Walks from a half edge towards a point, and returns where it is.
-///
-/// If the mesh has no such half edge, the walk begins at the first one.
-pub(crate) fn locate<UE, A: Allocator>(
-    dcel: &EdgeMesh<UE, A>,
-    start: FixedDirectedEdgeHandle,
-    point: Point,
-) -> PositionInTriangulation
-    requires { IsTriangulation dcel.now }
-    ensures { IsPlace dcel.now point result }
-{
-    if dcel.num_undirected_edges() == 0 {
-        return line::at_a_vertex(dcel, point);
-    }
-    let edge = beginning(dcel, start);
-    if dcel.num_faces() == 1 {
-        return line::locate_on_line(dcel, edge, point);
-    }
-    walk(dcel, inner_half(dcel, edge), point)
-}
-
 /// Returns the half edge where a walk begins: this one, or the first if there is no such.
-fn beginning<'a, UE, A: Allocator>(
+pub(crate) fn beginning<'a, UE, A: Allocator>(
     dcel: &'a EdgeMesh<UE, A>,
     start: FixedDirectedEdgeHandle,
 ) -> Edge<'a, UE, A>
@@ -55,7 +33,7 @@ fn beginning<'a, UE, A: Allocator>(
 }
 
 /// Returns the half of an edge that is in a triangle, the given one if both are.
-fn inner_half<'a, UE, A: Allocator>(
+pub(crate) fn inner_half<'a, UE, A: Allocator>(
     dcel: &'a EdgeMesh<UE, A>,
     edge: Edge<'a, UE, A>,
 ) -> Edge<'a, UE, A>
@@ -76,22 +54,25 @@ fn inner_half<'a, UE, A: Allocator>(
 }
 
 /// Goes on across sides that have the point on their right, up to the outer face or to a triangle
-/// without such a side.
-fn walk<'a, UE, A: Allocator>(
+/// without such a side, but at most as often as there are faces.
+///
+/// It comes to no triangle of a Delaunay triangulation twice. Where edges are not Delaunay it may go
+/// in circles.
+pub(crate) fn walk<'a, UE, A: Allocator>(
     dcel: &'a EdgeMesh<UE, A>,
     start: Edge<'a, UE, A>,
     point: Point,
-) -> PositionInTriangulation
-    requires sound { IsDelaunayBut dcel.now [] }
+) -> Option<PositionInTriangulation>
+    requires triangulated { IsTriangleMesh dcel.now }
     requires mesh { mesh_behind start ≡ dcel.now }
     requires live { IsLive dcel.now.shape (number_of start) }
     requires inner { 0 < face_of dcel.now.shape (number_of start) }
-    ensures { IsPlace dcel.now point result }
+    ensures place { IfSome result (IsPlace dcel.now point) }
+    ensures ends { IfNone result (¬ IsLocallyDelaunay (point_at dcel.now) dcel.now.shape) }
 {
     every_mesh(dcel);
     let mut edge = start;
     let mut own = side(edge, point);
-    // It comes to no triangle of a Delaunay triangulation twice.
     for step in 0..dcel.num_faces() {
         // By turns, so that it doesn't go on round a vertex with very many edges.
         let order = if step % 2 == 0 {
@@ -100,15 +81,15 @@ fn walk<'a, UE, A: Allocator>(
             Order::PrevFirst
         };
         match look(dcel, edge, own, order, point) {
-            Ok(position) => return position,
+            Ok(position) => return Some(position),
             Err(crossed) => edge = crossed.rev(),
         }
         if edge.is_outer_edge() {
-            return PositionInTriangulation::OutsideOfConvexHull(edge.fix());
+            return Some(PositionInTriangulation::OutsideOfConvexHull(edge.fix()));
         }
         own = Side::Left;
     }
-    unreachable!()
+    None
 }
 
 /// Which of the other two sides of a triangle is looked at first.

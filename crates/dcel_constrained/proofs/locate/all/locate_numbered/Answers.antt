@@ -12,5 +12,5 @@ pub returns : goal.returns
 returns g c =
     let right = IsPlace c.args.planar.now.dcel in
     subst (AnswersToo right right c.args.points.now c.args.number c.args.positions.now.items) (sym c.note.ensures)
-    (answers_too right right c.args.points.now c.args.positions.now.items c.args.number c.locate_from-position.result c.in-Some.point (sym c.item_of.ensures ∙ c.in-Some.is)
-    (λ p a is. is) c.locate_from-position.ensures)
+    (answers_too right right c.args.points.now c.args.positions.now.items c.args.number c.locate-position.result c.in-Some.point (sym c.item_of.ensures ∙ c.in-Some.is)
+    (λ p a is. is) c.locate-position.ensures)

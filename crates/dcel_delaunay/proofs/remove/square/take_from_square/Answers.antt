@@ -1,4 +1,4 @@
-use Rattle.std.proofs.Common.{◌≡◌, ℕ, ◌+◌, ◌-◌, [], ◌∷◌, ◌++◌, ap, arith, List, map, reverse, subst, sym, ◌∙◌}
+use Rattle.std.proofs.Common.{◌≡◌, ℕ, ◌+◌, [], ◌∷◌, ◌++◌, ap, arith, List, map, reverse, subst, sym, ◌∙◌}
 use Rattle.dcel_maps.specs.edits.Fill.{edges_at, faces_at}
 use Rattle.dcel_maps.specs.Renumbering.{new_number}
 use Rattle.dcel_maps.proofs.removal.RingLists.{border_long}

@@ -1,4 +1,4 @@
-use Rattle.std.proofs.Common.{◌≡◌, ℕ, ◌-◌, arith, List, subst, sym}
+use Rattle.std.proofs.Common.{◌≡◌, ℕ, arith, List, subst, sym}
 use Rattle.dcel_maps.specs.edits.Fill.{edges_at, faces_at}
 use Rattle.dcel_planar.specs.Legalization.{ListsLoose}
 use Rattle.dcel_delaunay.proofs.FromRing.{from_triangle}

@@ -5,18 +5,13 @@ use Rattle.dcel_plane.specs.star.Star.{HasEmptyCirclesBut}
 use Rattle.dcel_predicates.specs.declared.point.Point.{Point}
 use Rattle.dcel_planar.specs.declared.planar.PlanarMesh.{PlanarMesh}
 use Rattle.dcel_planar.proofs.Refused.{insertion_fails}
-use Rattle.dcel_planar.proofs.Walking.{delaunay}
 use Rattle.dcel_delaunay.proofs.Listed.{lists_after, new_vertex, put_inserts, settled, settled_inserts}
 use Rattle.dcel_delaunay.proofs.Theorem.{no_circle}
 use Rattle.dcel_delaunay.proofs.Taking.{takes_has, takes_points, takes_same}
 use Rattle.dcel_delaunay.proofs.triangulation.Triangulation.insert_from.Goals as goal
 
-pub locate-position-requires-clause-hull : goal.locate-position-requires-clause-hull
-locate-position-requires-clause-hull g c = let mid = c.finish.new.self in (settled mid.planar mid.listed c.in_ok-finish.ensures.whole).hull
-
-pub locate-position-requires-clause-delaunay : goal.locate-position-requires-clause-delaunay
-locate-position-requires-clause-delaunay g c =
-    let mid = c.finish.new.self in delaunay mid.planar.dcel (settled mid.planar mid.listed c.in_ok-finish.ensures.whole).sound
+pub locate-position-requires : goal.locate-position-requires
+locate-position-requires g c = let mid = c.finish.new.self in record { hull = (settled mid.planar mid.listed c.in_ok-finish.ensures.whole).hull }
 
 pub put_at-requires-clause-hull : goal.put_at-requires-clause-hull
 put_at-requires-clause-hull g c = let mid = c.finish.new.self in (settled mid.planar mid.listed c.in_ok-finish.ensures.whole).hull

@@ -1,5 +1,4 @@
 use Rattle.std.proofs.Common.{◌∙◌, sym, subst}
-use Rattle.dcel_planar.proofs.Walking.{delaunay}
 use Rattle.dcel_planar.specs.Places.{IsPlace}
 use Rattle.dcel_delaunay.specs.Bulk.{AnswersToo}
 use Rattle.dcel_delaunay.specs.Triangulated.{mesh_in}
@@ -7,11 +6,8 @@ use Rattle.dcel_delaunay.proofs.Listed.{settled}
 use Rattle.dcel_delaunay.proofs.Standing.{answers_none_too, answers_too}
 use Rattle.dcel_delaunay.proofs.triangulation.Triangulation.locate_numbered.Goals as goal
 
-pub locate-position-requires-clause-hull : goal.locate-position-requires-clause-hull
-locate-position-requires-clause-hull g c = (settled c.args.self.now.planar c.args.self.now.listed c.requires).hull
-
-pub locate-position-requires-clause-delaunay : goal.locate-position-requires-clause-delaunay
-locate-position-requires-clause-delaunay g c = delaunay c.args.self.now.planar.dcel (settled c.args.self.now.planar c.args.self.now.listed c.requires).sound
+pub locate-position-requires : goal.locate-position-requires
+locate-position-requires g c = record { hull = (settled c.args.self.now.planar c.args.self.now.listed c.requires).hull }
 
 pub returns-in_default : goal.returns-in_default
 returns-in_default g c =

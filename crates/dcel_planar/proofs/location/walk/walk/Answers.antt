@@ -18,12 +18,12 @@ loop-step-init g c = record {
   comes = ([], refl, refl);
 }
 
-pub returns-then-is_outer_edge : goal.returns-then-is_outer_edge
-returns-then-is_outer_edge g c =
+pub returns-then-is_outer_edge-clause-place : goal.returns-then-is_outer_edge-clause-place
+returns-then-is_outer_edge-clause-place g c =
     let m = c.args.dcel.now in
     let h = number_of c.in-Err.crossed in
     let p = c.args.point in
-    let over = stepped m c.every_mesh.ensures c.requires.sound p h c.in-Err.ensures.beyond in
+    let over = stepped m c.every_mesh.ensures c.requires.triangulated p h c.in-Err.ensures.beyond in
     let is : c.fix.result ≡ rev h = search rules in
     let outer : face_of m.shape c.fix.result ≡ 0 = search rules in
     (subst (IsLive m.shape) (sym is) over.0, outer, subst (HasLeft m p) (sym is) over.1)
@@ -35,7 +35,7 @@ loop-step-preserved g c =
     let p = c.args.point in
     let inv = c.loop-step.invariant in
     let start = face_of m.shape (number_of c.args.start) in
-    let over = stepped m c.every_mesh.ensures c.requires.sound p h c.in-Err.ensures.beyond in
+    let over = stepped m c.every_mesh.ensures c.requires.triangulated p h c.in-Err.ensures.beyond in
     let is : number_of c.rev-edge.result ≡ rev h = c.rev-edge.ensures.number in
     let inner : face_of m.shape (number_of c.rev-edge.result) ≢ 0 = search rules in
     record {
@@ -47,11 +47,11 @@ loop-step-preserved g c =
           (crossed m p start (face_of m.shape (number_of c.loop-step.edge)) h c.loop-step.step inv.comes c.in-Err.ensures.face c.in-Err.ensures.beyond);
     }
 
-pub unreachable-requires : goal.unreachable-requires
-unreachable-requires g c =
+pub returns-clause-ends : goal.returns-clause-ends
+returns-clause-ends g c = λ delaunay.
     let m = c.args.dcel.now in
     let inv = c.loop-step.invariant in
     let few =
-    comes_few m c.every_mesh.ensures c.requires.sound c.args.point (face_of m.shape (number_of c.args.start)) (number_of c.loop-step.edge) c.loop-step.step
+    comes_few m c.every_mesh.ensures c.requires.triangulated delaunay c.args.point (face_of m.shape (number_of c.args.start)) (number_of c.loop-step.edge) c.loop-step.step
     inv.live inv.inner inv.comes in
     omega (arith, few, c.loop-step-test.false, c.num_faces-step-end.ensures.count)

@@ -14,7 +14,7 @@ use Rattle.dcel_plane.proofs.covering.Inside.{as_place, place_of}
 use Rattle.dcel_plane.proofs.covering.Triangles.{at_word, same_face}
 use Rattle.dcel_plane.specs.location.Locating.{HasBeyond}
 use Rattle.dcel_plane.proofs.segments.Wholly.{plane_covers}
-use Rattle.dcel_constrained.specs.Missing.{IsMissed}
+use Rattle.dcel_planar.specs.Missing.{IsMissed}
 
 module _ {DE UE F : Type 0} (m : Mesh Point DE UE F) (mesh : IsMesh m) (triangles : AllTriangles m.shape) (p : Point) where
   abbrev s : Shape

@@ -1,5 +1,0 @@
-use Rattle.dcel_planar.proofs.Whole.{flat_alone}
-use Rattle.dcel_planar.proofs.planar.PlanarMesh.locate_on_line.Goals as goal
-
-pub locate_on_line-requires-clause-flat : goal.locate_on_line-requires-clause-flat
-locate_on_line-requires-clause-flat g c = flat_alone c.args.self.now.dcel c.requires.hull c.requires.alone
