@@ -16,6 +16,8 @@ ERROR = re.compile(r"(?m)^.*\berror(?:\[[\w-]+\])?: .*$")
 # A part that the prover was told to check, and doesn't know by this name.
 UNKNOWN = re.compile(r"(?m)^rattle: error: (?:several functions are named `|`\w+` has no [\w ]+ `)([^`]+)`")
 PLACED = re.compile(r"(?m)^(?:note: )?(?:\./)?(\S+?):(\d+):\d+: .*$")
+# What is said of a goal of a function that stays open.
+LEFT_OPEN = re.compile(r"it is not proved that|found no proof")
 # What is said of a proof file that names something that the edit took away.
 TAKEN_AWAY = re.compile(r"has no field|is not in scope|has no `|was not admitted")
 
@@ -50,16 +52,23 @@ class Verdict:
         is_only_refused = said == "not proved" or own in said
         return said.startswith("no proof: expected") or said.startswith("not proved") and (is_only_refused or not self.is_open)
 
-    def says_little(self, place, text):
-        """Whether all that it says of this function, which stands in this text, is that a proof file names what the edit took away."""
+    def notes_on(self, place, text):
+        """What it says of places of this function, which stands in this text, and of its proof files: whether of these, and the words."""
         functions = functions_of(text, types_in(self.crate))
         lines = [[text.count("\n", 0, at) + 1 for at in it[2:]] for it in functions if it[:2] == (place.function, place.owner)]
         folder = f"{place.owner}/{place.function}/" if place.owner else f"proofs/{place.module().replace('::', '/')}/{place.function}/"
-        told = []
         for it in PLACED.finditer(self.said):
             is_proof = folder in it[1]
             if is_proof or it[1] == place.path and any(first <= int(it[2]) <= last for first, last in lines):
-                told.append(is_proof and bool(TAKEN_AWAY.search(it[0])))
+                yield is_proof, it[0]
+
+    def leaves_open(self, place, text):
+        """Whether it says that a goal of this function, which no answer is for, isn't proved: then what it calls doesn't matter."""
+        return any(not is_proof and LEFT_OPEN.search(words) for is_proof, words in self.notes_on(place, text))
+
+    def says_little(self, place, text):
+        """Whether all that it says of this function, which stands in this text, is that a proof file names what the edit took away."""
+        told = [is_proof and bool(TAKEN_AWAY.search(words)) for is_proof, words in self.notes_on(place, text)]
         return bool(told) and all(told)
 
     def why(self):
@@ -133,7 +142,7 @@ class Trial:
         verdict = self.check(texts, set().union(*places.values()), is_open)
         doubtful = []
         for edit in batch:
-            is_refused = verdict.ended and verdict.status == 1 and any(map(verdict.refuses, places[edit]))
+            is_refused = verdict.ended and verdict.status == 1 and any(verdict.refuses(it) or verdict.leaves_open(it, texts[it.path]) for it in places[edit])
             says_little = is_refused and all(verdict.says_little(it, texts[it.path]) for it in places[edit])
             if is_refused and not (says_little and verdict.is_open):
                 self.little += [edit] if says_little else []
@@ -172,8 +181,15 @@ class Trial:
         if not place.function:
             return None
         module = place.module()
-        names = ["::".join(place.named(types_in(self.crate))), "::".join(it for it in [place.owner or module, place.function] if it), module]
+        names = [*self.special(place), "::".join(place.named(types_in(self.crate)))]
+        names += ["::".join(it for it in [place.owner or module, place.function] if it), module]
         return next((it for it in names if it and it not in self.unknown), None)
+
+    def special(self, place):
+        """The name of a function of an impl for some arguments of its type, which the folder of its proof has, as `PlanarMesh+unit+A`."""
+        proofs = prover.CRATES / self.crate / "proofs"
+        found = [it for it in proofs.rglob(f"{place.owner}*/{place.function}") if it.parent.name.partition("+")[0] == place.owner]
+        return [f"{it.parent.name}::{it.name}" for it in found if len(found) == 1 and "+" in it.parent.name]
 
     def called(self, texts, more, closed):
         """Calls the prover. If some places are closed, the proofs of all other functions are open."""
