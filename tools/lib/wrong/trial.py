@@ -103,7 +103,7 @@ class Trial:
                 if not verdict.ended or not any(map(verdict.names_of, places[edit])):
                     yield edit, f"NOT JUDGED: {verdict.said[-200:]}"
                 else:
-                    is_refused = any(map(verdict.refuses, places[edit]))
+                    is_refused = any(self.is_refused(verdict, it, {}) for it in places[edit])
                     yield edit, "REFUSED AS IT IS" if is_refused else None
 
     def batches(self):
@@ -142,7 +142,7 @@ class Trial:
         verdict = self.check(texts, set().union(*places.values()), is_open)
         doubtful = []
         for edit in batch:
-            is_refused = verdict.ended and verdict.status == 1 and any(verdict.refuses(it) or verdict.leaves_open(it, texts[it.path]) for it in places[edit])
+            is_refused = verdict.ended and verdict.status == 1 and any(self.is_refused(verdict, it, texts) for it in places[edit])
             says_little = is_refused and all(verdict.says_little(it, texts[it.path]) for it in places[edit])
             if is_refused and not (says_little and verdict.is_open):
                 self.little += [edit] if says_little else []
@@ -158,6 +158,11 @@ class Trial:
             yield from self.tried(batch[len(batch) // 2 :], False)
         elif doubtful:
             yield from self.tried(doubtful, False)
+
+    def is_refused(self, verdict, place, texts):
+        """Whether the verdict on a copy with these texts is that this function isn't proved, whatever it calls."""
+        text = texts.get(place.path) or (prover.CRATES / self.crate / place.path).read_text()
+        return verdict.refuses(place) or verdict.leaves_open(place, text)
 
     def check(self, texts, places, is_open=True):
         """Has these functions checked in a copy of the crate that has these texts, and in which the proofs of all others are open, if only
