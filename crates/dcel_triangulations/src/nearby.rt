@@ -16,7 +16,12 @@ use std::alloc::Global;
 /// Tells a vertex that no other one is nearer to a point than, or 2^32 - 1 if there is no vertex.
 ///
 /// If the triangulation isn't whole, the status is UNFINISHED.
-pub fn nearest(triangulation: &mut DcelTriangulation, point: DcelPoint, vertex: &mut u32) -> u32
+#[unsafe(no_mangle)]
+pub extern "C" fn dcel_triangulation_nearest(
+    triangulation: &mut DcelTriangulation,
+    point: DcelPoint,
+    vertex: &mut u32,
+) -> u32
     ensures done { result ≡ 0 → IsSo (IsNearestTo point vertex.new) (kept_in triangulation.old) }
     ensures none { (result ≡ 21) ↔ (kept_in triangulation.old ≡ None) }
     ensures out_of_range { result ≡ 24 → IsFar point }
@@ -44,7 +49,8 @@ pub fn nearest(triangulation: &mut DcelTriangulation, point: DcelPoint, vertex: 
 ///
 /// It looks for them in an order of its own, in which walks are short. If coordinates are out
 /// of range, the first row that has one is told.
-pub fn nearest_all(
+#[unsafe(no_mangle)]
+pub extern "C" fn dcel_triangulation_nearest_all(
     alloc: Global,
     triangulation: &mut DcelTriangulation,
     points: &[DcelPoint],

@@ -14,7 +14,12 @@ use spade_dcel::handles::FixedVertexHandle;
 ///
 /// If the status is UNFINISHED, the vertex is gone, and `moved` is told, but the triangulation isn't
 /// whole. With any other refusal all vertices keep their points.
-pub fn remove(triangulation: &mut DcelTriangulation, vertex: u32, moved: &mut u64) -> u32
+#[unsafe(no_mangle)]
+pub extern "C" fn dcel_triangulation_remove(
+    triangulation: &mut DcelTriangulation,
+    vertex: u32,
+    moved: &mut u64,
+) -> u32
     ensures done { result ≡ 0 → AreSo (RemovesVertex vertex moved.new) (kept_in triangulation.old) (kept_in triangulation.new) }
     ensures fails { result ≢ 0 → result ≢ 21 →
         AreSo (FailsToRemoveVertex vertex result moved.old moved.new) (kept_in triangulation.old) (kept_in triangulation.new) }

@@ -20,7 +20,8 @@ use std::alloc::Global;
 /// many there are. If coordinates are out of range, the first row that has one is told; if there is no
 /// memory, or there are too many points for a mesh, the status is OUT_OF_MEMORY. Then the buffer
 /// stays, and `needed` is 0.
-pub fn triangulate(
+#[unsafe(no_mangle)]
+pub extern "C" fn dcel_triangulate(
     alloc: Global,
     points: &[DcelPoint],
     triangles: &mut [Triangle],

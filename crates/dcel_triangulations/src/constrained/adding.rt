@@ -23,7 +23,8 @@ use std::alloc::Global;
 /// or is on it, doesn't cross it. The answer is false if one of them is no vertex.
 ///
 /// If the triangulation isn't whole, the status is UNFINISHED.
-pub fn can_add_constraint(
+#[unsafe(no_mangle)]
+pub extern "C" fn dcel_constrained_can_add_constraint(
     triangulation: &mut DcelConstrained,
     from: u32,
     to: u32,
@@ -52,7 +53,8 @@ pub fn can_add_constraint(
 ///
 /// If the status is NO_SUCH_VERTEX or CROSSES, no edge is a constraint that wasn't. If it is
 /// OUT_OF_MEMORY, parts of the segment may be, and the same call adds the rest.
-pub fn add_constraint(
+#[unsafe(no_mangle)]
+pub extern "C" fn dcel_constrained_add_constraint(
     triangulation: &mut DcelConstrained,
     from: u32,
     to: u32,
@@ -77,11 +79,13 @@ pub fn add_constraint(
     }
 }
 
-/// Makes segments constraints, as [`add_constraint`] does, in their order, up to the first that is
-/// refused. `done` is how many are constraints then, from the front: the refused one has this row.
+/// Makes segments constraints, as [`dcel_constrained_add_constraint`] does, in their order, up to the
+/// first that is refused. `done` is how many are constraints then, from the front: the refused one has
+/// this row.
 ///
 /// If the status is OUT_OF_MEMORY, parts of that segment may be constraints, too.
-pub fn add_constraints(
+#[unsafe(no_mangle)]
+pub extern "C" fn dcel_constrained_add_constraints(
     triangulation: &mut DcelConstrained,
     segments: &[Ends],
     done: &mut u64,

@@ -17,7 +17,12 @@ use std::alloc::Global;
 ///
 /// If the status is UNFINISHED, the vertex is there, the last one, but the triangulation isn't
 /// whole. With any other refusal no vertex is added.
-pub fn insert(triangulation: &mut DcelConstrained, point: DcelPoint, vertex: &mut u32) -> u32
+#[unsafe(no_mangle)]
+pub extern "C" fn dcel_constrained_insert(
+    triangulation: &mut DcelConstrained,
+    point: DcelPoint,
+    vertex: &mut u32,
+) -> u32
     ensures done { result ≡ 0 → AreSo (InsertsPoint point vertex.new) (kept_in triangulation.old) (kept_in triangulation.new) }
     ensures fails { result ≢ 0 → result ≢ 21 → result ≢ 24 → AreSo (FailsToInsertPoint point result) (kept_in triangulation.old) (kept_in triangulation.new) }
     ensures none { (result ≡ 21) ↔ (kept_in triangulation.old ≡ None) }
@@ -46,7 +51,8 @@ pub fn insert(triangulation: &mut DcelConstrained, point: DcelPoint, vertex: &mu
 ///
 /// If coordinates are out of range, the first row that has one is told, and no point is inserted. If
 /// memory or numbers run out, the points that were inserted so far stay.
-pub fn insert_all(
+#[unsafe(no_mangle)]
+pub extern "C" fn dcel_constrained_insert_all(
     alloc: Global,
     triangulation: &mut DcelConstrained,
     points: &[DcelPoint],

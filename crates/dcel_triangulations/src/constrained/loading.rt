@@ -23,7 +23,8 @@ use std::alloc::{AllocError, Global};
 /// If coordinates are out of range, the first row that has one is told. If a segment ends at no point,
 /// the status is NO_SUCH_VERTEX, and if one crosses an earlier one, CROSSES: then its row is told. With
 /// any refusal what was kept before stays.
-pub fn bulk_load(
+#[unsafe(no_mangle)]
+pub extern "C" fn dcel_constrained_bulk_load(
     alloc: Global,
     triangulation: &mut DcelConstrained,
     points: &[DcelPoint],

@@ -17,7 +17,12 @@ use spade_dcel::handles::FixedVertexHandle;
 /// If the status is UNFINISHED, the vertex is gone, and `moved` is told, but the triangulation isn't
 /// whole. With any other refusal all vertices keep their points; with OUT_OF_MEMORY constraints that
 /// end at the vertex may be freed.
-pub fn remove(triangulation: &mut DcelConstrained, vertex: u32, moved: &mut u64) -> u32
+#[unsafe(no_mangle)]
+pub extern "C" fn dcel_constrained_remove(
+    triangulation: &mut DcelConstrained,
+    vertex: u32,
+    moved: &mut u64,
+) -> u32
     ensures done { result ≡ 0 → AreSo (RemovesVertex vertex moved.new) (kept_in triangulation.old) (kept_in triangulation.new) }
     ensures fails { result ≢ 0 → result ≢ 21 →
         AreSo (FailsToRemoveVertex vertex result moved.old moved.new) (kept_in triangulation.old) (kept_in triangulation.new) }
