@@ -1,8 +1,8 @@
 //! A box of any type as a pointer and its allocator.
 //!
-//! A struct that C holds has no type parameter. So each crate that keeps something for C has its own,
-//! which is made of these two words. They are generic since a box is opened only with a proof that
-//! its value may be dropped, which the bound `T: Drop` hands on.
+//! A struct that C holds has no type parameter, so each crate that keeps something for C has one of its
+//! own, made of these two words. [`Opened`] is generic since a box is opened only with a proof that its
+//! value may be dropped, which the bound `T: Drop` hands on.
 
 ghost use Rattle.std.specs.Prelude.{◌≡◌};
 ghost use Rattle.std.specs.Box.Ownership.{box_owns};
@@ -10,7 +10,8 @@ ghost use Rattle.std.specs.Box.Ownership.{box_owns};
 use std::alloc::Allocator;
 use std::marker::Model;
 
-/// What a box consists of. It owns the value and its memory, as the box did, and isn't freed by itself.
+/// What a box consists of. It owns the value and its memory, as the box did, and isn't freed by
+/// itself.
 pub struct Opened<T, A: Allocator> {
     /// Where the value is.
     pub at: *mut T,

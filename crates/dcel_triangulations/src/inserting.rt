@@ -12,7 +12,7 @@ use crate::triangulation::DcelTriangulation;
 use spade_dcel::handles::FixedVertexHandle;
 use std::alloc::Global;
 
-/// Inserts a point, and tells its vertex: a new one, or the one that is there already.
+/// Inserts a point, and reports its vertex: a new one, or the one that is there already.
 ///
 /// If the status is UNFINISHED, the vertex is there, the last one, but the triangulation isn't
 /// whole. With any other refusal no vertex is added.
@@ -79,10 +79,10 @@ pub extern "C" fn dcel_triangulation_insert_with_hint(
 }
 
 /// Inserts points in an order of its own, in which walks are short, and puts the vertex of each into
-/// the buffer, in the order of the points. What lies behind them there stays.
+/// the buffer, in the order of the points. What is behind them there stays.
 ///
-/// If coordinates are out of range, the first row that has one is told, and no point is inserted. If
-/// memory or numbers run out, the points that were inserted so far stay.
+/// If coordinates are out of range, the first row that has one is reported, and no point is inserted.
+/// If memory or numbers run out, the points that were inserted so far stay.
 #[unsafe(no_mangle)]
 pub extern "C" fn dcel_triangulation_insert_all(
     alloc: Global,

@@ -2,9 +2,9 @@
 //! calls: a [`DcelTriangulation`], with a function for each call of `dcel_delaunay`, or a
 //! [`DcelConstrained`], with one for each call of `dcel_constrained`.
 //!
-//! Start with the header, `bindings/c/dcel.h`. Together with `dcel_c` it becomes `libdcel`. The functions
-//! take what C passes: a triangulation or none, points with coordinates that may be out of range,
-//! numbers of vertices that may not be there, and buffers. They return statuses.
+//! Start with the header, `bindings/c/dcel.h`. Together with `dcel_c` it becomes `libdcel`. The
+//! functions take what C passes: a triangulation or none, points with coordinates that may be out of
+//! range, numbers of vertices that may not be there, and buffers. They return statuses.
 #![tactic(auto)]
 
 mod buffers;

@@ -26,7 +26,7 @@ pub struct DcelHalfEdge {
     pub face: u32,
 }
 
-/// Puts the links of each half edge into the buffer at its number, if they all fit; what lies behind
+/// Puts the links of each half edge into the buffer at its number, if they all fit; what is behind
 /// them there stays. If they don't, the status is SHORT, and the buffer stays. `needed` is how many
 /// half edges there are, 0 if there is no triangulation.
 #[unsafe(no_mangle)]

@@ -1,7 +1,7 @@
 //! What a triangulation has, as lists by number, in buffers: points, triangles, neighbors, edges and
 //! hull.
 //!
-//! A list is put into a buffer whole, from the front, and what lies behind it there stays. If it
+//! A list is put into a buffer whole, from the front, and what is behind it there stays. If it
 //! doesn't fit, the status is SHORT, and the buffer stays; `needed` is how many items there are in
 //! both cases. If there is no memory or no triangulation, the buffer stays, and `needed` is 0.
 

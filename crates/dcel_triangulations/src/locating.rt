@@ -14,7 +14,7 @@ use dcel_delaunay::PositionInTriangulation;
 use spade_dcel::handles::FixedVertexHandle;
 use std::alloc::Global;
 
-/// Tells where a point is. The walk begins where the last insertion ended.
+/// Reports where a point is. The walk begins where the last insertion ended.
 ///
 /// If the triangulation isn't whole, the status is UNFINISHED.
 #[unsafe(no_mangle)]
@@ -45,7 +45,7 @@ pub extern "C" fn dcel_triangulation_locate(
     DONE
 }
 
-/// Tells where a point is, as [`dcel_triangulation_locate`] does, by a walk that begins at a vertex.
+/// Reports where a point is, as [`dcel_triangulation_locate`] does, by a walk that begins at a vertex.
 ///
 /// The nearer the vertex is to the point, the shorter is the walk. If no vertex has the number, the
 /// walk begins where that of [`dcel_triangulation_locate`] does.
@@ -79,11 +79,11 @@ pub extern "C" fn dcel_triangulation_locate_with_hint(
     DONE
 }
 
-/// Tells where each point is, as [`dcel_triangulation_locate`] does, and puts it into the buffer, in
-/// the order of the points. What lies behind them there stays.
+/// Reports where each point is, as [`dcel_triangulation_locate`] does, and puts it into the buffer, in
+/// the order of the points. What is behind them there stays.
 ///
 /// It looks for them in an order of its own, in which walks are short. If coordinates are out
-/// of range, the first row that has one is told.
+/// of range, the first row that has one is reported.
 #[unsafe(no_mangle)]
 pub extern "C" fn dcel_triangulation_locate_all(
     alloc: Global,

@@ -13,7 +13,7 @@ use crate::triangulation::DcelTriangulation;
 use spade_dcel::handles::FixedVertexHandle;
 use std::alloc::Global;
 
-/// Tells a vertex that no other one is nearer to a point than, or 2^32 - 1 if there is no vertex.
+/// Reports a vertex that no other one is nearer to a point than, or 2^32 - 1 if there is no vertex.
 ///
 /// If the triangulation isn't whole, the status is UNFINISHED.
 #[unsafe(no_mangle)]
@@ -45,10 +45,10 @@ pub extern "C" fn dcel_triangulation_nearest(
 }
 
 /// Puts for each point a vertex that no other one is nearer to it than into the buffer, in the order
-/// of the points, or 2^32 - 1 if there is no vertex. What lies behind them there stays.
+/// of the points, or 2^32 - 1 if there is no vertex. What is behind them there stays.
 ///
 /// It looks for them in an order of its own, in which walks are short. If coordinates are out
-/// of range, the first row that has one is told.
+/// of range, the first row that has one is reported.
 #[unsafe(no_mangle)]
 pub extern "C" fn dcel_triangulation_nearest_all(
     alloc: Global,

@@ -19,8 +19,8 @@ use spade_dcel::handles::FixedVertexHandle;
 use spade_dcel::laws::every_mesh;
 use std::alloc::Global;
 
-/// Tells whether the segment between two vertices crosses no constraint. A constraint that ends on it,
-/// or is on it, doesn't cross it. The answer is false if one of them is no vertex.
+/// Reports whether the segment between two vertices crosses no constraint. A constraint that ends on
+/// it, or is on it, doesn't cross it. The answer is false if one of them is no vertex.
 ///
 /// If the triangulation isn't whole, the status is UNFINISHED.
 #[unsafe(no_mangle)]
@@ -49,7 +49,7 @@ pub extern "C" fn dcel_constrained_can_add_constraint(
 }
 
 /// Makes the segment between two vertices one of constraints, from each vertex on it to the next, and
-/// tells whether an edge is a constraint now that wasn't.
+/// reports whether an edge is a constraint now that wasn't.
 ///
 /// If the status is NO_SUCH_VERTEX or CROSSES, no edge is a constraint that wasn't. If it is
 /// OUT_OF_MEMORY, parts of the segment may be, and the same call adds the rest.

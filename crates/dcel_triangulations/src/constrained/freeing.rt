@@ -12,7 +12,7 @@ use crate::constrained::triangulation::DcelConstrained;
 use crate::status::{DONE, NO_MESH, OUT_OF_MEMORY};
 use spade_dcel::handles::{FixedUndirectedEdgeHandle, FixedVertexHandle};
 
-/// Makes an edge no constraint any more, and tells whether it was one. Any number may be given.
+/// Makes an edge no constraint any more, and reports whether it was one. Any number may be given.
 ///
 /// If there is no memory, the edge is a constraint as before, and nothing has changed, or it is none
 /// any more.

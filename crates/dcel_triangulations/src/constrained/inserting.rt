@@ -12,7 +12,7 @@ use crate::points::{DcelPoint, point_of, read_points};
 use crate::status::{DONE, NO_MESH, OUT_OF_RANGE, SHORT, status_of_insertion};
 use std::alloc::Global;
 
-/// Inserts a point, and tells its vertex: a new one, or the one that is there already. A constraint
+/// Inserts a point, and reports its vertex: a new one, or the one that is there already. A constraint
 /// that the point is on becomes two.
 ///
 /// If the status is UNFINISHED, the vertex is there, the last one, but the triangulation isn't
@@ -46,11 +46,11 @@ pub extern "C" fn dcel_constrained_insert(
 }
 
 /// Inserts points in an order of its own, in which walks are short, and puts the vertex of each into
-/// the buffer, in the order of the points. What lies behind them there stays. Constraints that points
+/// the buffer, in the order of the points. What is behind them there stays. Constraints that points
 /// are on become several.
 ///
-/// If coordinates are out of range, the first row that has one is told, and no point is inserted. If
-/// memory or numbers run out, the points that were inserted so far stay.
+/// If coordinates are out of range, the first row that has one is reported, and no point is inserted.
+/// If memory or numbers run out, the points that were inserted so far stay.
 #[unsafe(no_mangle)]
 pub extern "C" fn dcel_constrained_insert_all(
     alloc: Global,

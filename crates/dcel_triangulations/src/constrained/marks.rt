@@ -58,8 +58,8 @@ fn marked_edges(alloc: Global, kept: &Constrained) -> Result<Vec<Ends, Global>, 
 }
 
 /// Puts the depth of each triangle into the buffer: the least number of constraints that a way from
-/// the outer face to it crosses. What is more than 2^32 - 1 is told as that. The triangles are in the
-/// order of [`dcel_constrained_triangles`](crate::dcel_constrained_triangles).
+/// the outer face to it crosses. What is more than 2^32 - 1 is reported as that. The triangles are in
+/// the order of [`dcel_constrained_triangles`](crate::dcel_constrained_triangles).
 #[unsafe(no_mangle)]
 pub extern "C" fn dcel_constrained_regions(
     alloc: Global,

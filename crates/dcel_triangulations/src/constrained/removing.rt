@@ -14,9 +14,9 @@ use spade_dcel::handles::FixedVertexHandle;
 /// vertex gets its number, and `moved` is the number that this had before, or 2^64 - 1 if it was the
 /// last itself.
 ///
-/// If the status is UNFINISHED, the vertex is gone, and `moved` is told, but the triangulation isn't
-/// whole. With any other refusal all vertices keep their points; with OUT_OF_MEMORY constraints that
-/// end at the vertex may be freed.
+/// If the status is UNFINISHED, the vertex is gone, and `moved` is reported, but the triangulation
+/// isn't whole. With any other refusal all vertices keep their points; with OUT_OF_MEMORY constraints
+/// that end at the vertex may be freed.
 #[unsafe(no_mangle)]
 pub extern "C" fn dcel_constrained_remove(
     triangulation: &mut DcelConstrained,
