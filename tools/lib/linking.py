@@ -11,7 +11,7 @@ ROOT = Path(__file__).resolve().parents[2]
 HEADER = ROOT / "bindings/c/dcel.h"
 VERSION = (ROOT / "VERSION").read_text().strip()
 # The static libraries of which it is made. Each has no other names than its exports.
-CRATES = ("dcel_c", "delaunay_c")
+CRATES = ("dcel_c", "dcel_triangulations")
 # Programs go on to use a library as long as the first two numbers stay.
 SONAME = f"libdcel.so.{VERSION.rpartition('.')[0]}"
 # As Debian asks of libraries: no text to be relocated, nothing left to be bound or written once it is loaded, and no stack that can be run.

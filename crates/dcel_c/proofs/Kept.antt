@@ -1,39 +1,30 @@
 -- What `Held` owns while a mesh is kept is what a box of the mesh owns. These are the steps that its walks share.
-use Rattle.std.proofs.Common.{◌≡◌, ◌+◌, ℕ, List, [], ◌∷◌, refl, sym, ap, subst, true≢false}
+use Rattle.std.proofs.Common.{◌≡◌, ℕ, List, [], ◌∷◌, refl, sym, ap, subst}
 use seplogic.Ra.Ura.{Ura}
 use base.Fraction.{full_share}
 use base.Logic.{id⊢}
 use denote.Memory.{part_at}
 use denote.RawPtr.{block_ptr}
 use mir.Raw.{raw as bare}
-use mathlib.Core.Option.{some}
-use mir.Fields.{get_v, set_v}
-use mir.Syntax.{Sym, Ty, Tys, impl, tnil, dnil, ty_struct}
-use mir.Val.{Val, Vals, has_ty, vstruct, WT}
-use prog.Memory.{field_at}
-use types.Part.{Part, sub, whole}
+use mir.Syntax.{impl, tnil, dnil}
+use mir.Val.{Val, has_ty, WT}
 use lib.Dec.{T}
-use types.Kit.{Goal, Item, Seq, Step, step, ‵, ◌⊛◌, ◌$◌, fjoin, join, rewrite, use1}
-use denote.Steps.{nothing, only}
-use base.Fml.{Fml, Share, fat, ftrue, fsep}
+use types.Kit.{Goal, Item, Seq, Step, step, ‵, ◌$◌, rewrite, use1}
+use denote.Steps.{only}
 use types.Logic.{Logic}
 use Rattle.std.proofs.alloc.Calls.{token, Fits}
-use Rattle.std.specs.Prelude.{IsSome, None, Option, Some}
+use Rattle.std.specs.Prelude.{IsSome, Some}
 use Rattle.std_alloc.proofs.BoxSteps.Form.{Bx, D, B, τ, handle, word, box_ty, box_typed}
 use Rattle.std_alloc.proofs.BoxSteps.Steps.{box_out, box_in}
 use Rattle.std_heap.specs.contracts.Global as Heap
 use Rattle.std_heap.specs.contracts.GlobalAllocator.TheImpl.{ghosts, dict}
 use Rattle.std_heap.proofs.Global.TheLaws as heap
+use Rattle.dcel_exports.proofs.Steps.{there}
 use Rattle.dcel_c.specs.Held.{State, mesh_row}
 use Rattle.dcel_c.specs.Lending.{with_mesh}
 use Rattle.dcel_c.specs.contracts.held.Held.{the_row as H}
 use Rattle.dcel_c.specs.declared.held.Held.{Held}
 use Rattle.dcel_c.proofs.Payload.{mesh_laws}
-
--- what is there
-there : {T : Type 0} → (o : Option T) → IsSome o → (x : T) × (o ≡ Some x)
-there None is = absurd (true≢false (sym is))
-there (Some x) is = (x, refl)
 
 -- the box of a mesh on the heap, as the steps of `std_alloc` want it
 abbrev pub boxes : Bx
@@ -52,12 +43,6 @@ boxes = record {
 -- the box that the holder stands for, with this mesh in it
 abbrev pub box_of : Held → State → D boxes
 box_of held mesh = record { ptr = held.at; alloc = held.alloc; value = mesh }
-
-module _ {K : Type 0} {M : Type 1} {𝓤 : Ura M} {𝓛 : Logic 𝓤} where
-  -- field k of a struct that lies in a cell
-  pub field_in : K → {q : Share} {name : Sym} {types : Tys} {b o : ℕ} {fields : Vals} (k : ℕ) {type : Ty} {d : ℕ} → field_at 0 types k ≡ some (type, d)
-      → Part K 𝓛 (‵ (fat q (ty_struct name types) b o (vstruct fields))) q type b (o + d) (get_v fields k) (λ u. ‵ (fat q (ty_struct name types) b o (vstruct (set_v fields k u))))
-  field_in t k is = sub t k is (whole t)
 
 module _ {K : Type 0} {M : Type 1} {𝓤 : Ura M} {𝓛 : Logic 𝓤} {Γ : List (Item 𝓤)} {G : Goal 𝓤 𝓛.H} where
   -- A holder of a mesh is opened. The mesh in memory, the right to free it and the handle take its place, and its machine
@@ -80,10 +65,6 @@ module _ {K : Type 0} {M : Type 1} {𝓤 : Ura M} {𝓛 : Logic 𝓤} {Γ : List
   closes_held t {hv} held mesh b o at = step (λ s.
       box_in boxes t (box_of held mesh) b o mesh at refl $
       use1 𝓛 (‵ (H.own_val (with_mesh held mesh) (word boxes hv b o ∷ []))) (id⊢ 𝓤 _) $ s)
-
-  -- A function without lifetimes that keeps nothing of its one parameter ends with its result alone.
-  pub ends_with : K → (result : Fml) → Step K 𝓛 ((‵ ftrue ⊛ (‵ (fsep ftrue ftrue) ⊛ ‵ result)) ∷ Γ) G (‵ result ∷ Γ) G
-  ends_with t result = step (λ s. nothing t $ nothing t $ fjoin t $ join t $ nothing t $ join t $ s)
 
   -- What a call returned as a box is a word of its type.
   pub knows_word : K → (box : D boxes) (v : Val) → (T (has_ty (box_ty boxes) v) × WT v → Seq K 𝓛 (‵ ((B boxes).own_val box (v ∷ [])) ∷ Γ) G)

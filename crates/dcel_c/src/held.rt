@@ -4,9 +4,7 @@ ghost use Rattle.dcel_c.specs.Held.{Kept, held_owns, kept_coded};
 ghost use Rattle.std.specs.Borrow.{sem};
 ghost use Rattle.std.specs.Prelude.{◌≡◌, IfOk, IsSome, None, Some};
 
-pub mod opened;
-
-use opened::Opened;
+use dcel_exports::Opened;
 use spade_dcel::dcel::Dcel;
 use std::alloc::{AllocError, Global};
 use std::marker::Model;

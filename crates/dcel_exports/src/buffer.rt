@@ -5,7 +5,7 @@ ghost use Rattle.dcel_exports.specs.Answers.{filled};
 
 use crate::status::done_or_short;
 
-/// Puts the items of a list into a buffer, as many as fit, from the front. What lies behind them
+/// Puts the items of a list into a buffer, as many as fit, from the front. What is behind them
 /// stays. `needed` is how many items there are.
 ///
 /// Returns [`DONE`](crate::status::DONE) if all are there, and [`SHORT`](crate::status::SHORT) if

@@ -10,7 +10,7 @@ use std::alloc::Allocator;
 
 /// Answers the lines on an empty mesh, and puts the replies into `replies`.
 ///
-/// As many bytes of the replies as fit are put there, from the front, and what lies behind them
+/// As many bytes of the replies as fit are put there, from the front, and what is behind them
 /// stays. `needed` is how many bytes all replies are. Returns [`DONE`](crate::status::DONE) if all
 /// are there, and [`SHORT`](crate::status::SHORT) if the buffer was short;
 /// [`NO_MEMORY`](crate::status::NO_MEMORY) if there was no memory for the mesh or the replies, and

@@ -19,12 +19,12 @@ use Rattle.std_alloc.proofs.BoxSteps.Steps.{box_out, box_in}
 use Rattle.std_heap.specs.contracts.Global as Heap
 use Rattle.std_heap.specs.contracts.GlobalAllocator.TheImpl.{ghosts, dict}
 use Rattle.std_heap.proofs.Global.TheLaws as heap
+use Rattle.dcel_exports.proofs.Steps.{there}
 use Rattle.dcel_triangulations.specs.constrained.Held.{State, constrained_row}
 use Rattle.dcel_triangulations.specs.constrained.Lending.{with_points}
 use Rattle.dcel_triangulations.specs.contracts.constrained.held.Held.{the_row as H}
 use Rattle.dcel_triangulations.specs.declared.constrained.held.Held.{Held}
 use Rattle.dcel_triangulations.proofs.ConstrainedPayload.{constrained_laws}
-use Rattle.dcel_triangulations.proofs.Kept.{there}
 
 -- the box of a triangulation on the heap, as the steps of `std_alloc` want it
 abbrev pub boxes : Bx

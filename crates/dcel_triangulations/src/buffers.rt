@@ -10,7 +10,7 @@ use dcel_delaunay::lists::Across;
 
 /// The triangles across from the corners of a triangle: C's `dcel_across`.
 ///
-/// They are told by their places in the list of triangles. Where there is none, on the hull, it is
+/// They are given by their places in the list of triangles. Where there is none, on the hull, it is
 /// 2^32 - 1.
 #[repr(C)]
 #[derive(Clone, Copy)]
@@ -23,7 +23,7 @@ pub struct DcelAcross {
     pub third: u32,
 }
 
-/// Puts a list into the buffer, from the front, if it fits; what lies behind it there stays.
+/// Puts a list into the buffer, from the front, if it fits; what is behind it there stays.
 /// `needed` is how many items there are.
 pub(crate) fn put_items<T: Copy>(list: &[T], buffer: &mut [T], needed: &mut u64) -> u32
     ensures { IsPut list.now buffer.old buffer.new needed.new result }

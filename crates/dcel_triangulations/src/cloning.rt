@@ -11,7 +11,12 @@ use std::alloc::Global;
 
 /// Makes a triangulation with the same mesh, in memory of its own. One that was kept there before is
 /// freed. It is whole if the other one is.
-pub fn clone(alloc: Global, from: &mut DcelTriangulation, to: &mut DcelTriangulation) -> u32
+#[unsafe(no_mangle)]
+pub extern "C" fn dcel_triangulation_clone(
+    alloc: Global,
+    from: &mut DcelTriangulation,
+    to: &mut DcelTriangulation,
+) -> u32
     ensures done { result ≡ 0 → AreSo IsCopy (kept_in from.old) (kept_in to.new) }
     ensures refused { result ≢ 0 → kept_in to.new ≡ kept_in to.old }
     ensures none { (result ≡ 21) ↔ (kept_in from.old ≡ None) }

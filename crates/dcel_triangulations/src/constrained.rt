@@ -15,19 +15,28 @@ mod removing;
 mod triangulation;
 mod whole;
 
-pub use adding::{add_constraint, add_constraints, can_add_constraint};
-pub use freeing::{exists_constraint, is_constraint, remove_constraint};
-pub use inserting::{insert, insert_all};
-pub use listing::{
-    list_directed_edges, list_edges, list_hull, list_neighbors, list_points, list_triangles,
+pub use adding::{
+    dcel_constrained_add_constraint, dcel_constrained_add_constraints,
+    dcel_constrained_can_add_constraint,
 };
-pub use loading::bulk_load;
-pub use locating::{locate, locate_all};
-pub use making::{clone, from_triangulation};
-pub use marks::{list_constraints, list_regions};
-pub use refining::{DcelRefinement, refine};
-pub use removing::remove;
+pub use freeing::{
+    dcel_constrained_exists_constraint, dcel_constrained_is_constraint,
+    dcel_constrained_remove_constraint,
+};
+pub use inserting::{dcel_constrained_insert, dcel_constrained_insert_all};
+pub use listing::{
+    dcel_constrained_directed_edges, dcel_constrained_edges, dcel_constrained_hull,
+    dcel_constrained_neighbors, dcel_constrained_points, dcel_constrained_triangles,
+};
+pub use loading::dcel_constrained_bulk_load;
+pub use locating::{dcel_constrained_locate, dcel_constrained_locate_all};
+pub use making::{dcel_constrained_clone, dcel_constrained_from_triangulation};
+pub use marks::{dcel_constrained_constraints, dcel_constrained_regions};
+pub use refining::{DcelRefinement, dcel_constrained_refine};
+pub use removing::dcel_constrained_remove;
 pub use triangulation::DcelConstrained;
 pub use whole::{
-    finish, free, is_whole, new, num_constraints, num_edges, num_triangles, num_vertices,
+    dcel_constrained_finish, dcel_constrained_free, dcel_constrained_is_whole,
+    dcel_constrained_new, dcel_constrained_num_constraints, dcel_constrained_num_edges,
+    dcel_constrained_num_triangles, dcel_constrained_num_vertices,
 };

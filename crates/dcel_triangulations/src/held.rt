@@ -4,10 +4,8 @@ ghost use Rattle.dcel_triangulations.specs.Held.{Kept, held_owns, kept_coded};
 ghost use Rattle.std.specs.Borrow.{sem};
 ghost use Rattle.std.specs.Prelude.{◌≡◌, IsSome, None, Some};
 
-pub mod opened;
-
 use dcel_delaunay::Triangulation;
-use opened::Opened;
+use dcel_exports::Opened;
 use std::alloc::Global;
 use std::marker::Model;
 

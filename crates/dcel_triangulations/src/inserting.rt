@@ -12,11 +12,16 @@ use crate::triangulation::DcelTriangulation;
 use spade_dcel::handles::FixedVertexHandle;
 use std::alloc::Global;
 
-/// Inserts a point, and tells its vertex: a new one, or the one that is there already.
+/// Inserts a point, and reports its vertex: a new one, or the one that is there already.
 ///
 /// If the status is UNFINISHED, the vertex is there, the last one, but the triangulation isn't
 /// whole. With any other refusal no vertex is added.
-pub fn insert(triangulation: &mut DcelTriangulation, point: DcelPoint, vertex: &mut u32) -> u32
+#[unsafe(no_mangle)]
+pub extern "C" fn dcel_triangulation_insert(
+    triangulation: &mut DcelTriangulation,
+    point: DcelPoint,
+    vertex: &mut u32,
+) -> u32
     ensures done { result ≡ 0 → AreSo (InsertsPoint point vertex.new) (kept_in triangulation.old) (kept_in triangulation.new) }
     ensures fails { result ≢ 0 → result ≢ 21 → result ≢ 24 → AreSo (FailsToInsertPoint point result) (kept_in triangulation.old) (kept_in triangulation.new) }
     ensures none { (result ≡ 21) ↔ (kept_in triangulation.old ≡ None) }
@@ -39,11 +44,12 @@ pub fn insert(triangulation: &mut DcelTriangulation, point: DcelPoint, vertex: &
     }
 }
 
-/// Inserts a point, as [`insert`] does, by a walk that begins at a vertex.
+/// Inserts a point, as [`dcel_triangulation_insert`] does, by a walk that begins at a vertex.
 ///
 /// The nearer the vertex is to the point, the shorter is the walk. If no vertex has the number, the
-/// walk begins where that of [`insert`] does.
-pub fn insert_with_hint(
+/// walk begins where that of [`dcel_triangulation_insert`] does.
+#[unsafe(no_mangle)]
+pub extern "C" fn dcel_triangulation_insert_with_hint(
     triangulation: &mut DcelTriangulation,
     point: DcelPoint,
     hint: u32,
@@ -73,11 +79,12 @@ pub fn insert_with_hint(
 }
 
 /// Inserts points in an order of its own, in which walks are short, and puts the vertex of each into
-/// the buffer, in the order of the points. What lies behind them there stays.
+/// the buffer, in the order of the points. What is behind them there stays.
 ///
-/// If coordinates are out of range, the first row that has one is told, and no point is inserted. If
-/// memory or numbers run out, the points that were inserted so far stay.
-pub fn insert_all(
+/// If coordinates are out of range, the first row that has one is reported, and no point is inserted.
+/// If memory or numbers run out, the points that were inserted so far stay.
+#[unsafe(no_mangle)]
+pub extern "C" fn dcel_triangulation_insert_all(
     alloc: Global,
     triangulation: &mut DcelTriangulation,
     points: &[DcelPoint],

@@ -26,10 +26,11 @@ pub struct DcelHalfEdge {
     pub face: u32,
 }
 
-/// Puts the links of each half edge into the buffer at its number, if they all fit; what lies behind
+/// Puts the links of each half edge into the buffer at its number, if they all fit; what is behind
 /// them there stays. If they don't, the status is SHORT, and the buffer stays. `needed` is how many
 /// half edges there are, 0 if there is no triangulation.
-pub fn directed_edges(
+#[unsafe(no_mangle)]
+pub extern "C" fn dcel_triangulation_directed_edges(
     triangulation: &mut DcelTriangulation,
     half_edges: &mut [DcelHalfEdge],
     needed: &mut u64,

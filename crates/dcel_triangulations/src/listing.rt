@@ -1,7 +1,7 @@
 //! What a triangulation has, as lists by number, in buffers: points, triangles, neighbors, edges and
 //! hull.
 //!
-//! A list is put into a buffer whole, from the front, and what lies behind it there stays. If it
+//! A list is put into a buffer whole, from the front, and what is behind it there stays. If it
 //! doesn't fit, the status is SHORT, and the buffer stays; `needed` is how many items there are in
 //! both cases. If there is no memory or no triangulation, the buffer stays, and `needed` is 0.
 
@@ -19,7 +19,8 @@ use spade_dcel::laws::every_mesh;
 use std::alloc::Global;
 
 /// Puts the point of each vertex into the buffer, in the order of their numbers.
-pub fn list_points(
+#[unsafe(no_mangle)]
+pub extern "C" fn dcel_triangulation_points(
     alloc: Global,
     triangulation: &mut DcelTriangulation,
     points: &mut [DcelPoint],
@@ -43,7 +44,8 @@ pub fn list_points(
 /// Puts the corners of each triangle into the buffer, counterclockwise, by their vertices.
 ///
 /// If the triangulation is whole, they are a Delaunay triangulation of its points.
-pub fn list_triangles(
+#[unsafe(no_mangle)]
+pub extern "C" fn dcel_triangulation_triangles(
     alloc: Global,
     triangulation: &mut DcelTriangulation,
     triangles: &mut [Triangle],
@@ -68,8 +70,9 @@ pub fn list_triangles(
 }
 
 /// Puts for each triangle those across from its corners into the buffer. The triangles and their
-/// corners are in the order of [`list_triangles`].
-pub fn list_neighbors(
+/// corners are in the order of [`dcel_triangulation_triangles`].
+#[unsafe(no_mangle)]
+pub extern "C" fn dcel_triangulation_neighbors(
     alloc: Global,
     triangulation: &mut DcelTriangulation,
     across: &mut [DcelAcross],
@@ -91,7 +94,8 @@ pub fn list_neighbors(
 }
 
 /// Puts the ends of each edge into the buffer, in the order of their numbers.
-pub fn list_edges(
+#[unsafe(no_mangle)]
+pub extern "C" fn dcel_triangulation_edges(
     alloc: Global,
     triangulation: &mut DcelTriangulation,
     edges: &mut [Ends],
@@ -116,7 +120,8 @@ pub fn list_edges(
 ///
 /// Along a line it goes there and back, so each vertex comes twice but the ends. A vertex alone is
 /// the hull.
-pub fn list_hull(
+#[unsafe(no_mangle)]
+pub extern "C" fn dcel_triangulation_hull(
     alloc: Global,
     triangulation: &mut DcelTriangulation,
     vertices: &mut [u32],

@@ -14,10 +14,11 @@ use dcel_delaunay::PositionInTriangulation;
 use spade_dcel::handles::FixedVertexHandle;
 use std::alloc::Global;
 
-/// Tells where a point is. The walk begins where the last insertion ended.
+/// Reports where a point is. The walk begins where the last insertion ended.
 ///
 /// If the triangulation isn't whole, the status is UNFINISHED.
-pub fn locate(
+#[unsafe(no_mangle)]
+pub extern "C" fn dcel_triangulation_locate(
     triangulation: &mut DcelTriangulation,
     point: DcelPoint,
     position: &mut DcelPosition,
@@ -44,11 +45,12 @@ pub fn locate(
     DONE
 }
 
-/// Tells where a point is, as [`locate`] does, by a walk that begins at a vertex.
+/// Reports where a point is, as [`dcel_triangulation_locate`] does, by a walk that begins at a vertex.
 ///
 /// The nearer the vertex is to the point, the shorter is the walk. If no vertex has the number, the
-/// walk begins where that of [`locate`] does.
-pub fn locate_with_hint(
+/// walk begins where that of [`dcel_triangulation_locate`] does.
+#[unsafe(no_mangle)]
+pub extern "C" fn dcel_triangulation_locate_with_hint(
     triangulation: &mut DcelTriangulation,
     point: DcelPoint,
     hint: u32,
@@ -77,12 +79,13 @@ pub fn locate_with_hint(
     DONE
 }
 
-/// Tells where each point is, as [`locate`] does, and puts it into the buffer, in the order of the
-/// points. What lies behind them there stays.
+/// Reports where each point is, as [`dcel_triangulation_locate`] does, and puts it into the buffer, in
+/// the order of the points. What is behind them there stays.
 ///
 /// It looks for them in an order of its own, in which walks are short. If coordinates are out
-/// of range, the first row that has one is told.
-pub fn locate_all(
+/// of range, the first row that has one is reported.
+#[unsafe(no_mangle)]
+pub extern "C" fn dcel_triangulation_locate_all(
     alloc: Global,
     triangulation: &mut DcelTriangulation,
     points: &[DcelPoint],

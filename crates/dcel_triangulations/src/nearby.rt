@@ -13,10 +13,15 @@ use crate::triangulation::DcelTriangulation;
 use spade_dcel::handles::FixedVertexHandle;
 use std::alloc::Global;
 
-/// Tells a vertex that no other one is nearer to a point than, or 2^32 - 1 if there is no vertex.
+/// Reports a vertex that no other one is nearer to a point than, or 2^32 - 1 if there is no vertex.
 ///
 /// If the triangulation isn't whole, the status is UNFINISHED.
-pub fn nearest(triangulation: &mut DcelTriangulation, point: DcelPoint, vertex: &mut u32) -> u32
+#[unsafe(no_mangle)]
+pub extern "C" fn dcel_triangulation_nearest(
+    triangulation: &mut DcelTriangulation,
+    point: DcelPoint,
+    vertex: &mut u32,
+) -> u32
     ensures done { result ≡ 0 → IsSo (IsNearestTo point vertex.new) (kept_in triangulation.old) }
     ensures none { (result ≡ 21) ↔ (kept_in triangulation.old ≡ None) }
     ensures out_of_range { result ≡ 24 → IsFar point }
@@ -40,11 +45,12 @@ pub fn nearest(triangulation: &mut DcelTriangulation, point: DcelPoint, vertex: 
 }
 
 /// Puts for each point a vertex that no other one is nearer to it than into the buffer, in the order
-/// of the points, or 2^32 - 1 if there is no vertex. What lies behind them there stays.
+/// of the points, or 2^32 - 1 if there is no vertex. What is behind them there stays.
 ///
 /// It looks for them in an order of its own, in which walks are short. If coordinates are out
-/// of range, the first row that has one is told.
-pub fn nearest_all(
+/// of range, the first row that has one is reported.
+#[unsafe(no_mangle)]
+pub extern "C" fn dcel_triangulation_nearest_all(
     alloc: Global,
     triangulation: &mut DcelTriangulation,
     points: &[DcelPoint],

@@ -27,7 +27,7 @@ pub(crate) fn point_of(given: DcelPoint) -> Option<Point>
 }
 
 /// Reads the points. Returns the status that says why not: there is no memory, or the point in the
-/// row that is told is the first that has a coordinate out of range.
+/// row that is reported is the first that has a coordinate out of range.
 pub(crate) fn read_points(
     alloc: Global,
     given: &[DcelPoint],

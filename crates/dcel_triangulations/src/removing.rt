@@ -12,9 +12,14 @@ use spade_dcel::handles::FixedVertexHandle;
 /// Removes a vertex with its point. The last vertex gets its number, and `moved` is the number that
 /// this had before, or 2^64 - 1 if it was the last itself.
 ///
-/// If the status is UNFINISHED, the vertex is gone, and `moved` is told, but the triangulation isn't
-/// whole. With any other refusal all vertices keep their points.
-pub fn remove(triangulation: &mut DcelTriangulation, vertex: u32, moved: &mut u64) -> u32
+/// If the status is UNFINISHED, the vertex is gone, and `moved` is reported, but the triangulation
+/// isn't whole. With any other refusal all vertices keep their points.
+#[unsafe(no_mangle)]
+pub extern "C" fn dcel_triangulation_remove(
+    triangulation: &mut DcelTriangulation,
+    vertex: u32,
+    moved: &mut u64,
+) -> u32
     ensures done { result ≡ 0 → AreSo (RemovesVertex vertex moved.new) (kept_in triangulation.old) (kept_in triangulation.new) }
     ensures fails { result ≢ 0 → result ≢ 21 →
         AreSo (FailsToRemoveVertex vertex result moved.old moved.new) (kept_in triangulation.old) (kept_in triangulation.new) }
@@ -47,7 +52,7 @@ pub(crate) fn tell(removed: &Removed) -> u64
     }
 }
 
-/// Returns what is told if the vertex is gone all the same, and what was there before if it isn't.
+/// Returns what is reported if the vertex is gone all the same, and what was there before if it isn't.
 pub(crate) fn tell_after(error: &RemovalError, before: u64) -> u64
     ensures { result ≡ moved_after error.now before }
 {

@@ -1,4 +1,4 @@
-//! What calls return. The same names stand in the header.
+//! What calls return. The header has the same names.
 
 ghost use Rattle.std.specs.Prelude.{◌≡◌};
 ghost use Rattle.dcel_triangulations.specs.Statuses.{buffer_status, insertion_status, removal_status};

@@ -16,11 +16,12 @@ use std::alloc::Global;
 /// its corners, counterclockwise. Equal points are one, under the least of their rows. There are none
 /// if all points are on one line.
 ///
-/// As many as fit are put there, from the front, and what lies behind them stays. `needed` is how
-/// many there are. If coordinates are out of range, the first row that has one is told; if there is no
+/// As many as fit are put there, from the front, and what is behind them stays. `needed` is how many
+/// there are. If coordinates are out of range, the first row that has one is reported; if there is no
 /// memory, or there are too many points for a mesh, the status is OUT_OF_MEMORY. Then the buffer
 /// stays, and `needed` is 0.
-pub fn triangulate(
+#[unsafe(no_mangle)]
+pub extern "C" fn dcel_triangulate(
     alloc: Global,
     points: &[DcelPoint],
     triangles: &mut [Triangle],

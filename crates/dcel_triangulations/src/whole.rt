@@ -30,7 +30,11 @@ pub(crate) fn keep(alloc: Global, triangulation: &mut DcelTriangulation, made: P
 }
 
 /// Makes a triangulation of no points. One that was kept there before is freed.
-pub fn new(alloc: Global, triangulation: &mut DcelTriangulation) -> u32
+#[unsafe(no_mangle)]
+pub extern "C" fn dcel_triangulation_new(
+    alloc: Global,
+    triangulation: &mut DcelTriangulation,
+) -> u32
     ensures done { result ≡ 0 → IsSo HasNoPoints (kept_in triangulation.new) }
     ensures no_memory { result ≢ 0 → (result ≡ 20) × (kept_in triangulation.new ≡ kept_in triangulation.old) }
 {
@@ -41,7 +45,8 @@ pub fn new(alloc: Global, triangulation: &mut DcelTriangulation) -> u32
 }
 
 /// Frees the triangulation, if there is one.
-pub fn free(alloc: Global, triangulation: &mut DcelTriangulation)
+#[unsafe(no_mangle)]
+pub extern "C" fn dcel_triangulation_free(alloc: Global, triangulation: &mut DcelTriangulation)
     ensures { kept_in triangulation.new ≡ None }
 {
     *triangulation = DcelTriangulation {
@@ -51,7 +56,8 @@ pub fn free(alloc: Global, triangulation: &mut DcelTriangulation)
 }
 
 /// Returns the number of vertices, or 0 if there is no triangulation.
-pub fn num_vertices(triangulation: &mut DcelTriangulation) -> u64
+#[unsafe(no_mangle)]
+pub extern "C" fn dcel_triangulation_num_vertices(triangulation: &mut DcelTriangulation) -> u64
     ensures count { result ≡ vertices_in (kept_in triangulation.old) }
     ensures same { kept_in triangulation.new ≡ kept_in triangulation.old }
 {
@@ -62,7 +68,8 @@ pub fn num_vertices(triangulation: &mut DcelTriangulation) -> u64
 }
 
 /// Returns the number of edges, or 0 if there is no triangulation.
-pub fn num_edges(triangulation: &mut DcelTriangulation) -> u64
+#[unsafe(no_mangle)]
+pub extern "C" fn dcel_triangulation_num_edges(triangulation: &mut DcelTriangulation) -> u64
     ensures count { result ≡ edges_in (kept_in triangulation.old) }
     ensures same { kept_in triangulation.new ≡ kept_in triangulation.old }
 {
@@ -73,7 +80,8 @@ pub fn num_edges(triangulation: &mut DcelTriangulation) -> u64
 }
 
 /// Returns the number of triangles, or 0 if there is no triangulation.
-pub fn num_triangles(triangulation: &mut DcelTriangulation) -> u64
+#[unsafe(no_mangle)]
+pub extern "C" fn dcel_triangulation_num_triangles(triangulation: &mut DcelTriangulation) -> u64
     ensures count { result ≡ triangles_in (kept_in triangulation.old) }
     ensures same { kept_in triangulation.new ≡ kept_in triangulation.old }
 {
@@ -86,7 +94,8 @@ pub fn num_triangles(triangulation: &mut DcelTriangulation) -> u64
 }
 
 /// Returns whether there is a triangulation, and nothing in it is left undone for want of memory.
-pub fn is_whole(triangulation: &mut DcelTriangulation) -> bool
+#[unsafe(no_mangle)]
+pub extern "C" fn dcel_triangulation_is_whole(triangulation: &mut DcelTriangulation) -> bool
     ensures whole { IsTrue result ↔ IsSo IsWhole (kept_in triangulation.old) }
     ensures same { kept_in triangulation.new ≡ kept_in triangulation.old }
 {
@@ -99,7 +108,8 @@ pub fn is_whole(triangulation: &mut DcelTriangulation) -> bool
 /// Does what was left undone for want of memory. A whole triangulation stays as it is.
 ///
 /// If memory runs out again, what is done so far stays.
-pub fn finish(triangulation: &mut DcelTriangulation) -> u32
+#[unsafe(no_mangle)]
+pub extern "C" fn dcel_triangulation_finish(triangulation: &mut DcelTriangulation) -> u32
     ensures done { result ≡ 0 → AreSo Finishes (kept_in triangulation.old) (kept_in triangulation.new) }
     ensures no_memory { result ≡ 20 → AreSo StaysUnfinished (kept_in triangulation.old) (kept_in triangulation.new) }
     ensures none { result ≡ 21 → (kept_in triangulation.old ≡ None) × (kept_in triangulation.new ≡ None) }

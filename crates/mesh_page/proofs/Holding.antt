@@ -1,6 +1,6 @@
 -- What `Held` owns while a desk is kept is the desk in a block of its heap, with the right to give it back. These are the steps that its
 -- walks share.
-use Rattle.std.proofs.Common.{◌≡◌, ◌+◌, ℕ, List, [], ◌∷◌, refl, sym, ap, ◌∙◌, true≢false}
+use Rattle.std.proofs.Common.{◌≡◌, ℕ, List, [], ◌∷◌, refl, sym, ap, ◌∙◌}
 use seplogic.Ra.Ura.{Ura}
 use base.Fraction.{full_share}
 use base.Logic.{never, fst∗}
@@ -8,38 +8,23 @@ use denote.Memory.{part_at, lone}
 use denote.RawPtr.{Ptr, block_ptr, null_ptr, in_a_block}
 use denote.Shadow.{pure_l}
 use mir.Raw.{raw as bare}
-use mathlib.Core.Option.{some}
-use mir.Fields.{get_v, set_v}
-use mir.Syntax.{Sym, Ty, Tys, ty_struct}
-use mir.Val.{Val, Vals, vstruct}
-use prog.Memory.{field_at}
-use types.Part.{Part, sub, whole}
+use mir.Syntax.{Ty}
+use mir.Val.{Val}
 use types.Kit.{Goal, Item, Seq, Step, step, ‵, ◌$◌, fsplit, fjoin, rewrite, use0}
-use base.Fml.{Share, fat}
 use types.Logic.{Logic, sem}
 use Rattle.lent_heap.specs.Blocks.{block_token}
 use Rattle.lent_heap.proofs.Values.{one_val, one_own, one_told, one_made}
 use Rattle.std.specs.Box.Ownership.{box_owns}
-use Rattle.std.specs.Prelude.{IsSome, None, Option, Some}
+use Rattle.std.specs.Prelude.{IsSome, Some}
+use Rattle.dcel_exports.proofs.Steps.{there}
 use Rattle.mesh_page.specs.Held.{State, desk_row}
 use Rattle.mesh_page.specs.Lending.{with_desk}
 use Rattle.mesh_page.specs.contracts.held.Held.{the_row as H}
 use Rattle.mesh_page.specs.declared.held.Held.{Held}
 
--- what is there
-pub there : {T : Type 0} → (o : Option T) → IsSome o → (x : T) × (o ≡ Some x)
-there None is = absurd (true≢false (sym is))
-there (Some x) is = (x, refl)
-
 -- the type of a desk in memory
 abbrev pub desk_type : Ty
 desk_type = bare (lone desk_row.mir)
-
-module _ {K : Type 0} {M : Type 1} {𝓤 : Ura M} {𝓛 : Logic 𝓤} where
-  -- field k of a struct that lies in a cell
-  pub field_in : K → {q : Share} {name : Sym} {types : Tys} {b o : ℕ} {fields : Vals} (k : ℕ) {type : Ty} {d : ℕ} → field_at 0 types k ≡ some (type, d)
-      → Part K 𝓛 (‵ (fat q (ty_struct name types) b o (vstruct fields))) q type b (o + d) (get_v fields k) (λ u. ‵ (fat q (ty_struct name types) b o (vstruct (set_v fields k u))))
-  field_in t k is = sub t k is (whole t)
 
 module _ {K : Type 0} {M : Type 1} {𝓤 : Ura M} {𝓛 : Logic 𝓤} {Γ : List (Item 𝓤)} {G : Goal 𝓤 𝓛.H} where
   -- A box of a desk is the desk in memory, and the right to give its block back.

@@ -4,11 +4,9 @@ ghost use Rattle.mesh_page.specs.Held.{Kept, held_owns, kept_coded};
 ghost use Rattle.std.specs.Borrow.{sem};
 ghost use Rattle.std.specs.Prelude.{◌≡◌, IsSome, None, Some};
 
-pub mod opened;
-
 use crate::desk::Desk;
+use dcel_exports::Opened;
 use lent_heap::Heap;
-use opened::Opened;
 use std::marker::Model;
 
 /// A pointer that owns the desk behind it, or one that leads nowhere.

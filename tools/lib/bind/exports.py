@@ -32,14 +32,7 @@ FROM_BELOW = {
         "Triangle": ("dcel_delaunay", "mesh_page_triangle"),
         "Ends": ("dcel_delaunay", "mesh_page_ends"),
     },
-    "delaunay_c": {
-        "DcelTriangulation": ("dcel_triangulations", "dcel_triangulation"),
-        "DcelConstrained": ("dcel_triangulations", "dcel_constrained"),
-        "DcelPoint": ("dcel_triangulations", "dcel_point"),
-        "DcelPosition": ("dcel_triangulations", "dcel_position"),
-        "DcelAcross": ("dcel_triangulations", "dcel_across"),
-        "DcelRefinement": ("dcel_triangulations", "dcel_refinement"),
-        "DcelHalfEdge": ("dcel_triangulations", "dcel_half_edge"),
+    "dcel_triangulations": {
         "Triangle": ("dcel_delaunay", "dcel_triangle"),
         "Ends": ("dcel_delaunay", "dcel_ends"),
     },

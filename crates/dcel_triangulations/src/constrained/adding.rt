@@ -19,11 +19,12 @@ use spade_dcel::handles::FixedVertexHandle;
 use spade_dcel::laws::every_mesh;
 use std::alloc::Global;
 
-/// Tells whether the segment between two vertices crosses no constraint. A constraint that ends on it,
-/// or is on it, doesn't cross it. The answer is false if one of them is no vertex.
+/// Reports whether the segment between two vertices crosses no constraint. A constraint that ends on
+/// it, or is on it, doesn't cross it. The answer is false if one of them is no vertex.
 ///
 /// If the triangulation isn't whole, the status is UNFINISHED.
-pub fn can_add_constraint(
+#[unsafe(no_mangle)]
+pub extern "C" fn dcel_constrained_can_add_constraint(
     triangulation: &mut DcelConstrained,
     from: u32,
     to: u32,
@@ -48,11 +49,12 @@ pub fn can_add_constraint(
 }
 
 /// Makes the segment between two vertices one of constraints, from each vertex on it to the next, and
-/// tells whether an edge is a constraint now that wasn't.
+/// reports whether an edge is a constraint now that wasn't.
 ///
 /// If the status is NO_SUCH_VERTEX or CROSSES, no edge is a constraint that wasn't. If it is
 /// OUT_OF_MEMORY, parts of the segment may be, and the same call adds the rest.
-pub fn add_constraint(
+#[unsafe(no_mangle)]
+pub extern "C" fn dcel_constrained_add_constraint(
     triangulation: &mut DcelConstrained,
     from: u32,
     to: u32,
@@ -77,11 +79,13 @@ pub fn add_constraint(
     }
 }
 
-/// Makes segments constraints, as [`add_constraint`] does, in their order, up to the first that is
-/// refused. `done` is how many are constraints then, from the front: the refused one has this row.
+/// Makes segments constraints, as [`dcel_constrained_add_constraint`] does, in their order, up to the
+/// first that is refused. `done` is how many are constraints then, from the front: the refused one has
+/// this row.
 ///
 /// If the status is OUT_OF_MEMORY, parts of that segment may be constraints, too.
-pub fn add_constraints(
+#[unsafe(no_mangle)]
+pub extern "C" fn dcel_constrained_add_constraints(
     triangulation: &mut DcelConstrained,
     segments: &[Ends],
     done: &mut u64,

@@ -12,11 +12,16 @@ use crate::constrained::triangulation::DcelConstrained;
 use crate::status::{DONE, NO_MESH, OUT_OF_MEMORY};
 use spade_dcel::handles::{FixedUndirectedEdgeHandle, FixedVertexHandle};
 
-/// Makes an edge no constraint any more, and tells whether it was one. Any number may be given.
+/// Makes an edge no constraint any more, and reports whether it was one. Any number may be given.
 ///
 /// If there is no memory, the edge is a constraint as before, and nothing has changed, or it is none
 /// any more.
-pub fn remove_constraint(triangulation: &mut DcelConstrained, edge: u32, was: &mut bool) -> u32
+#[unsafe(no_mangle)]
+pub extern "C" fn dcel_constrained_remove_constraint(
+    triangulation: &mut DcelConstrained,
+    edge: u32,
+    was: &mut bool,
+) -> u32
     ensures done { result ≡ 0 → AreSo (FreesEdge edge was.new) (kept_in triangulation.old) (kept_in triangulation.new) }
     ensures no_memory { result ≡ 20 → AreSo (FailsToFreeEdge edge) (kept_in triangulation.old) (kept_in triangulation.new) }
     ensures none { (result ≡ 21) ↔ (kept_in triangulation.old ≡ None) }
@@ -38,7 +43,11 @@ pub fn remove_constraint(triangulation: &mut DcelConstrained, edge: u32, was: &m
 }
 
 /// Returns whether there is a triangulation, and the edge is a constraint. Any number may be given.
-pub fn is_constraint(triangulation: &mut DcelConstrained, edge: u32) -> bool
+#[unsafe(no_mangle)]
+pub extern "C" fn dcel_constrained_is_constraint(
+    triangulation: &mut DcelConstrained,
+    edge: u32,
+) -> bool
     ensures answer { IsTrue result ↔ IsSo (λ t. IsMarked (marked_mesh t) edge) (kept_in triangulation.old) }
     ensures same { kept_in triangulation.new ≡ kept_in triangulation.old }
 {
@@ -51,7 +60,12 @@ pub fn is_constraint(triangulation: &mut DcelConstrained, edge: u32) -> bool
 
 /// Returns whether there is a triangulation, and a constraint joins the vertices. Any numbers may be
 /// given.
-pub fn exists_constraint(triangulation: &mut DcelConstrained, from: u32, to: u32) -> bool
+#[unsafe(no_mangle)]
+pub extern "C" fn dcel_constrained_exists_constraint(
+    triangulation: &mut DcelConstrained,
+    from: u32,
+    to: u32,
+) -> bool
     ensures answer { IsTrue result ↔ IsSo (λ t. AreConstrained (marked_mesh t) from to) (kept_in triangulation.old) }
     ensures same { kept_in triangulation.new ≡ kept_in triangulation.old }
 {

@@ -4,8 +4,8 @@ ghost use Rattle.dcel_triangulations.specs.constrained.Held.{Kept, held_owns, ke
 ghost use Rattle.std.specs.Borrow.{sem};
 ghost use Rattle.std.specs.Prelude.{◌≡◌, IsSome, None, Some};
 
-use crate::held::opened::Opened;
 use dcel_constrained::ConstrainedTriangulation;
+use dcel_exports::Opened;
 use std::alloc::Global;
 use std::marker::Model;
 

@@ -12,12 +12,17 @@ use crate::points::{DcelPoint, point_of, read_points};
 use crate::status::{DONE, NO_MESH, OUT_OF_RANGE, SHORT, status_of_insertion};
 use std::alloc::Global;
 
-/// Inserts a point, and tells its vertex: a new one, or the one that is there already. A constraint
+/// Inserts a point, and reports its vertex: a new one, or the one that is there already. A constraint
 /// that the point is on becomes two.
 ///
 /// If the status is UNFINISHED, the vertex is there, the last one, but the triangulation isn't
 /// whole. With any other refusal no vertex is added.
-pub fn insert(triangulation: &mut DcelConstrained, point: DcelPoint, vertex: &mut u32) -> u32
+#[unsafe(no_mangle)]
+pub extern "C" fn dcel_constrained_insert(
+    triangulation: &mut DcelConstrained,
+    point: DcelPoint,
+    vertex: &mut u32,
+) -> u32
     ensures done { result ≡ 0 → AreSo (InsertsPoint point vertex.new) (kept_in triangulation.old) (kept_in triangulation.new) }
     ensures fails { result ≢ 0 → result ≢ 21 → result ≢ 24 → AreSo (FailsToInsertPoint point result) (kept_in triangulation.old) (kept_in triangulation.new) }
     ensures none { (result ≡ 21) ↔ (kept_in triangulation.old ≡ None) }
@@ -41,12 +46,13 @@ pub fn insert(triangulation: &mut DcelConstrained, point: DcelPoint, vertex: &mu
 }
 
 /// Inserts points in an order of its own, in which walks are short, and puts the vertex of each into
-/// the buffer, in the order of the points. What lies behind them there stays. Constraints that points
+/// the buffer, in the order of the points. What is behind them there stays. Constraints that points
 /// are on become several.
 ///
-/// If coordinates are out of range, the first row that has one is told, and no point is inserted. If
-/// memory or numbers run out, the points that were inserted so far stay.
-pub fn insert_all(
+/// If coordinates are out of range, the first row that has one is reported, and no point is inserted.
+/// If memory or numbers run out, the points that were inserted so far stay.
+#[unsafe(no_mangle)]
+pub extern "C" fn dcel_constrained_insert_all(
     alloc: Global,
     triangulation: &mut DcelConstrained,
     points: &[DcelPoint],

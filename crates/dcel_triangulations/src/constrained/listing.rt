@@ -1,7 +1,7 @@
 //! What a constrained triangulation has, as lists by number, in buffers: points, triangles,
 //! neighbors, edges, hull and half edges.
 //!
-//! A list is put into a buffer whole, from the front, and what lies behind it there stays. If it
+//! A list is put into a buffer whole, from the front, and what is behind it there stays. If it
 //! doesn't fit, the status is SHORT, and the buffer stays; `needed` is how many items there are in
 //! both cases. If there is no memory or no triangulation, the buffer stays, and `needed` is 0.
 
@@ -21,7 +21,8 @@ use dcel_delaunay::{Triangle, lists};
 use std::alloc::Global;
 
 /// Puts the point of each vertex into the buffer, in the order of their numbers.
-pub fn list_points(
+#[unsafe(no_mangle)]
+pub extern "C" fn dcel_constrained_points(
     alloc: Global,
     triangulation: &mut DcelConstrained,
     points: &mut [DcelPoint],
@@ -45,7 +46,8 @@ pub fn list_points(
 /// Puts the corners of each triangle into the buffer, counterclockwise, by their vertices.
 ///
 /// If the triangulation is whole, they are Delaunay but for the constraints.
-pub fn list_triangles(
+#[unsafe(no_mangle)]
+pub extern "C" fn dcel_constrained_triangles(
     alloc: Global,
     triangulation: &mut DcelConstrained,
     triangles: &mut [Triangle],
@@ -68,8 +70,9 @@ pub fn list_triangles(
 }
 
 /// Puts for each triangle those across from its corners into the buffer. The triangles and their
-/// corners are in the order of [`list_triangles`].
-pub fn list_neighbors(
+/// corners are in the order of [`dcel_constrained_triangles`].
+#[unsafe(no_mangle)]
+pub extern "C" fn dcel_constrained_neighbors(
     alloc: Global,
     triangulation: &mut DcelConstrained,
     across: &mut [DcelAcross],
@@ -91,7 +94,8 @@ pub fn list_neighbors(
 }
 
 /// Puts the ends of each edge into the buffer, in the order of their numbers.
-pub fn list_edges(
+#[unsafe(no_mangle)]
+pub extern "C" fn dcel_constrained_edges(
     alloc: Global,
     triangulation: &mut DcelConstrained,
     edges: &mut [Ends],
@@ -116,7 +120,8 @@ pub fn list_edges(
 ///
 /// Along a line it goes there and back, so each vertex comes twice but the ends. A vertex alone is
 /// the hull.
-pub fn list_hull(
+#[unsafe(no_mangle)]
+pub extern "C" fn dcel_constrained_hull(
     alloc: Global,
     triangulation: &mut DcelConstrained,
     vertices: &mut [u32],
@@ -138,7 +143,8 @@ pub fn list_hull(
 }
 
 /// Puts the links of each half edge into the buffer at its number.
-pub fn list_directed_edges(
+#[unsafe(no_mangle)]
+pub extern "C" fn dcel_constrained_directed_edges(
     triangulation: &mut DcelConstrained,
     half_edges: &mut [DcelHalfEdge],
     needed: &mut u64,

@@ -17,13 +17,14 @@ use std::alloc::{AllocError, Global};
 
 /// Makes a triangulation of points and of segments between them, by the rows of their ends: each
 /// segment is one of constraints, and no other edge is one. The vertex of each point is put into the
-/// buffer, in the order of the points, and what lies behind them there stays. One that was kept there
+/// buffer, in the order of the points, and what is behind them there stays. One that was kept there
 /// before is freed.
 ///
-/// If coordinates are out of range, the first row that has one is told. If a segment ends at no point,
-/// the status is NO_SUCH_VERTEX, and if one crosses an earlier one, CROSSES: then its row is told. With
-/// any refusal what was kept before stays.
-pub fn bulk_load(
+/// If coordinates are out of range, the first row that has one is reported. If a segment ends at no
+/// point, the status is NO_SUCH_VERTEX, and if one crosses an earlier one, CROSSES: then its row is
+/// reported. With any refusal what was kept before stays.
+#[unsafe(no_mangle)]
+pub extern "C" fn dcel_constrained_bulk_load(
     alloc: Global,
     triangulation: &mut DcelConstrained,
     points: &[DcelPoint],

@@ -13,10 +13,11 @@ use crate::position::{DcelPosition, tell_position};
 use crate::status::{DONE, NO_MESH, OUT_OF_MEMORY, OUT_OF_RANGE, SHORT, UNFINISHED};
 use std::alloc::Global;
 
-/// Tells where a point is. The walk begins at the newest edge.
+/// Reports where a point is. The walk begins at the newest edge.
 ///
 /// If the triangulation isn't whole, the status is UNFINISHED.
-pub fn locate(
+#[unsafe(no_mangle)]
+pub extern "C" fn dcel_constrained_locate(
     triangulation: &mut DcelConstrained,
     point: DcelPoint,
     position: &mut DcelPosition,
@@ -43,12 +44,13 @@ pub fn locate(
     DONE
 }
 
-/// Tells where each point is, as [`locate`] does, and puts it into the buffer, in the order of the
-/// points. What lies behind them there stays.
+/// Reports where each point is, as [`dcel_constrained_locate`] does, and puts it into the buffer, in
+/// the order of the points. What is behind them there stays.
 ///
 /// It looks for them in an order of its own, in which walks are short. If coordinates are out
-/// of range, the first row that has one is told.
-pub fn locate_all(
+/// of range, the first row that has one is reported.
+#[unsafe(no_mangle)]
+pub extern "C" fn dcel_constrained_locate_all(
     alloc: Global,
     triangulation: &mut DcelConstrained,
     points: &[DcelPoint],

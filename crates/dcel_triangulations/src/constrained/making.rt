@@ -15,7 +15,12 @@ use std::alloc::Global;
 
 /// Makes a triangulation with the same mesh and the same constraints, in memory of its own. One that
 /// was kept there before is freed. It is whole if the other one is.
-pub fn clone(alloc: Global, from: &mut DcelConstrained, to: &mut DcelConstrained) -> u32
+#[unsafe(no_mangle)]
+pub extern "C" fn dcel_constrained_clone(
+    alloc: Global,
+    from: &mut DcelConstrained,
+    to: &mut DcelConstrained,
+) -> u32
     ensures done { result ≡ 0 → AreSo IsCopy (kept_in from.old) (kept_in to.new) }
     ensures refused { result ≢ 0 → kept_in to.new ≡ kept_in to.old }
     ensures none { (result ≡ 21) ↔ (kept_in from.old ≡ None) }
@@ -35,7 +40,8 @@ pub fn clone(alloc: Global, from: &mut DcelConstrained, to: &mut DcelConstrained
 /// constraint, in memory of its own. One that was kept there before is freed.
 ///
 /// If the Delaunay triangulation isn't whole, the status is UNFINISHED.
-pub fn from_triangulation(
+#[unsafe(no_mangle)]
+pub extern "C" fn dcel_constrained_from_triangulation(
     alloc: Global,
     from: &mut DcelTriangulation,
     to: &mut DcelConstrained,

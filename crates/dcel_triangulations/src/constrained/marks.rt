@@ -17,7 +17,8 @@ use spade_dcel::laws::every_mesh;
 use std::alloc::{AllocError, Global};
 
 /// Puts the ends of each edge that is a constraint into the buffer, in the order of their numbers.
-pub fn list_constraints(
+#[unsafe(no_mangle)]
+pub extern "C" fn dcel_constrained_constraints(
     alloc: Global,
     triangulation: &mut DcelConstrained,
     constraints: &mut [Ends],
@@ -57,9 +58,10 @@ fn marked_edges(alloc: Global, kept: &Constrained) -> Result<Vec<Ends, Global>, 
 }
 
 /// Puts the depth of each triangle into the buffer: the least number of constraints that a way from
-/// the outer face to it crosses. The triangles are in the order of
-/// [`list_triangles`](crate::constrained::list_triangles). What is more than 2^32 - 1 is told as that.
-pub fn list_regions(
+/// the outer face to it crosses. What is more than 2^32 - 1 is reported as that. The triangles are in
+/// the order of [`dcel_constrained_triangles`](crate::dcel_constrained_triangles).
+#[unsafe(no_mangle)]
+pub extern "C" fn dcel_constrained_regions(
     alloc: Global,
     triangulation: &mut DcelConstrained,
     depths: &mut [u32],

@@ -36,7 +36,8 @@ pub struct DcelRefinement {
 /// to the next, and no other edge is one.
 ///
 /// If memory or numbers run out, the vertices added so far stay, and nothing is written.
-pub fn refine(
+#[unsafe(no_mangle)]
+pub extern "C" fn dcel_constrained_refine(
     alloc: Global,
     triangulation: &mut DcelConstrained,
     parameters: &DcelRefinement,

@@ -14,10 +14,15 @@ use spade_dcel::handles::FixedVertexHandle;
 /// vertex gets its number, and `moved` is the number that this had before, or 2^64 - 1 if it was the
 /// last itself.
 ///
-/// If the status is UNFINISHED, the vertex is gone, and `moved` is told, but the triangulation isn't
-/// whole. With any other refusal all vertices keep their points; with OUT_OF_MEMORY constraints that
-/// end at the vertex may be freed.
-pub fn remove(triangulation: &mut DcelConstrained, vertex: u32, moved: &mut u64) -> u32
+/// If the status is UNFINISHED, the vertex is gone, and `moved` is reported, but the triangulation
+/// isn't whole. With any other refusal all vertices keep their points; with OUT_OF_MEMORY constraints
+/// that end at the vertex may be freed.
+#[unsafe(no_mangle)]
+pub extern "C" fn dcel_constrained_remove(
+    triangulation: &mut DcelConstrained,
+    vertex: u32,
+    moved: &mut u64,
+) -> u32
     ensures done { result ≡ 0 → AreSo (RemovesVertex vertex moved.new) (kept_in triangulation.old) (kept_in triangulation.new) }
     ensures fails { result ≢ 0 → result ≢ 21 →
         AreSo (FailsToRemoveVertex vertex result moved.old moved.new) (kept_in triangulation.old) (kept_in triangulation.new) }

@@ -31,7 +31,8 @@ pub(crate) fn keep(alloc: Global, triangulation: &mut DcelConstrained, made: Con
 }
 
 /// Makes a triangulation of no points. One that was kept there before is freed.
-pub fn new(alloc: Global, triangulation: &mut DcelConstrained) -> u32
+#[unsafe(no_mangle)]
+pub extern "C" fn dcel_constrained_new(alloc: Global, triangulation: &mut DcelConstrained) -> u32
     ensures done { result ≡ 0 → IsSo HasNoPoints (kept_in triangulation.new) }
     ensures no_memory { result ≢ 0 → (result ≡ 20) × (kept_in triangulation.new ≡ kept_in triangulation.old) }
 {
@@ -42,7 +43,8 @@ pub fn new(alloc: Global, triangulation: &mut DcelConstrained) -> u32
 }
 
 /// Frees the triangulation, if there is one.
-pub fn free(alloc: Global, triangulation: &mut DcelConstrained)
+#[unsafe(no_mangle)]
+pub extern "C" fn dcel_constrained_free(alloc: Global, triangulation: &mut DcelConstrained)
     ensures { kept_in triangulation.new ≡ None }
 {
     *triangulation = DcelConstrained {
@@ -52,7 +54,8 @@ pub fn free(alloc: Global, triangulation: &mut DcelConstrained)
 }
 
 /// Returns the number of vertices, or 0 if there is no triangulation.
-pub fn num_vertices(triangulation: &mut DcelConstrained) -> u64
+#[unsafe(no_mangle)]
+pub extern "C" fn dcel_constrained_num_vertices(triangulation: &mut DcelConstrained) -> u64
     ensures count { result ≡ vertices_in (kept_in triangulation.old) }
     ensures same { kept_in triangulation.new ≡ kept_in triangulation.old }
 {
@@ -63,7 +66,8 @@ pub fn num_vertices(triangulation: &mut DcelConstrained) -> u64
 }
 
 /// Returns the number of edges, or 0 if there is no triangulation.
-pub fn num_edges(triangulation: &mut DcelConstrained) -> u64
+#[unsafe(no_mangle)]
+pub extern "C" fn dcel_constrained_num_edges(triangulation: &mut DcelConstrained) -> u64
     ensures count { result ≡ edges_in (kept_in triangulation.old) }
     ensures same { kept_in triangulation.new ≡ kept_in triangulation.old }
 {
@@ -74,7 +78,8 @@ pub fn num_edges(triangulation: &mut DcelConstrained) -> u64
 }
 
 /// Returns the number of triangles, or 0 if there is no triangulation.
-pub fn num_triangles(triangulation: &mut DcelConstrained) -> u64
+#[unsafe(no_mangle)]
+pub extern "C" fn dcel_constrained_num_triangles(triangulation: &mut DcelConstrained) -> u64
     ensures count { result ≡ triangles_in (kept_in triangulation.old) }
     ensures same { kept_in triangulation.new ≡ kept_in triangulation.old }
 {
@@ -88,7 +93,8 @@ pub fn num_triangles(triangulation: &mut DcelConstrained) -> u64
 
 /// Returns the number of edges that are constraints, or 0 if there is no triangulation. It looks at
 /// each edge.
-pub fn num_constraints(triangulation: &mut DcelConstrained) -> u64
+#[unsafe(no_mangle)]
+pub extern "C" fn dcel_constrained_num_constraints(triangulation: &mut DcelConstrained) -> u64
     ensures count { result ≡ constraints_in (kept_in triangulation.old) }
     ensures same { kept_in triangulation.new ≡ kept_in triangulation.old }
 {
@@ -99,7 +105,8 @@ pub fn num_constraints(triangulation: &mut DcelConstrained) -> u64
 }
 
 /// Returns whether there is a triangulation, and nothing in it is left undone for want of memory.
-pub fn is_whole(triangulation: &mut DcelConstrained) -> bool
+#[unsafe(no_mangle)]
+pub extern "C" fn dcel_constrained_is_whole(triangulation: &mut DcelConstrained) -> bool
     ensures whole { IsTrue result ↔ IsSo IsWhole (kept_in triangulation.old) }
     ensures same { kept_in triangulation.new ≡ kept_in triangulation.old }
 {
@@ -112,7 +119,8 @@ pub fn is_whole(triangulation: &mut DcelConstrained) -> bool
 /// Does what was left undone for want of memory. A whole triangulation stays as it is.
 ///
 /// If memory runs out again, what is done so far stays. Constraints stay in any case.
-pub fn finish(triangulation: &mut DcelConstrained) -> u32
+#[unsafe(no_mangle)]
+pub extern "C" fn dcel_constrained_finish(triangulation: &mut DcelConstrained) -> u32
     ensures done { result ≡ 0 → AreSo Finishes (kept_in triangulation.old) (kept_in triangulation.new) }
     ensures no_memory { result ≡ 20 → AreSo StaysUnfinished (kept_in triangulation.old) (kept_in triangulation.new) }
     ensures none { result ≡ 21 → (kept_in triangulation.old ≡ None) × (kept_in triangulation.new ≡ None) }

@@ -14,9 +14,10 @@ use types.ByLocal.{alloc_all, pass_all, free_all, look_at, get, get_in, sets}
 use types.Kit.{‵, raw, prop, ◌⊛◌, ◌$◌, ◌∵◌, !, qed, drop, done, keep, fsplit, split, regoal, suffices}
 use types.Part.{agg}
 use types.Run.{stop, fld, no_more, and_then, of_opd, enter, returns}
-use Rattle.dcel_c.proofs.Kept.{field_in, boxes, box_of, closes_held, ends_with}
+use Rattle.dcel_exports.proofs.Steps.{field_in, ends_with}
+use Rattle.dcel_c.proofs.Kept.{boxes, box_of, closes_held}
 use Rattle.dcel_c.specs.Held.{mesh_row}
-use Rattle.dcel_c.specs.contracts.held.opened.Opened.{the_row as Opened}
+use Rattle.dcel_exports.specs.contracts.boxes.Opened.{the_row as Opened}
 use Rattle.dcel_c.specs.contracts.held.Held.{the_row as H}
 use Rattle.dcel_c.specs.contracts.held.Held.full as f
 use Rattle.dcel_c.specs.declared.held.Held.{Held}

@@ -28,7 +28,8 @@ use types.Kit.{‵, raw, some, later, at_ret, ◌⊛◌, ◌$◌, ◌∵◌, !, 
 use types.Logic.{Logic, sem}
 use types.Part.{look_in}
 use types.Run.{stop, fld, load, of_opd, addr, first, blocks, exec, enter, returns}
-use Rattle.dcel_triangulations.proofs.Kept.{field_in, boxes, opens_held, closes_held}
+use Rattle.dcel_exports.proofs.Steps.{field_in}
+use Rattle.dcel_triangulations.proofs.Kept.{boxes, opens_held, closes_held}
 use Rattle.dcel_triangulations.specs.Held.{State, points_row}
 use Rattle.dcel_triangulations.specs.Lending.{with_points}
 use Rattle.dcel_triangulations.specs.contracts.held.Held.{the_row as H}

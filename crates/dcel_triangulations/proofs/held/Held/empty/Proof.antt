@@ -22,7 +22,8 @@ use types.ByLocal.{alloc_all, pass_all, free_all, look_at, get, sets}
 use types.Kit.{‵, raw, prop, ◌⊛◌, ◌$◌, ◌∵◌, !, qed, done, drop, feq_i, fjoin, fpack, fsplit, keep, move, regoal, split, suffices, use1}
 use types.Part.{agg}
 use types.Run.{no_more, and_then, lit, enter, returns}
-use Rattle.dcel_triangulations.proofs.Kept.{boxes, ends_with}
+use Rattle.dcel_exports.proofs.Steps.{ends_with}
+use Rattle.dcel_triangulations.proofs.Kept.{boxes}
 use Rattle.dcel_triangulations.specs.contracts.held.Held.{the_row as H, the_type}
 use Rattle.dcel_triangulations.specs.contracts.held.Held.empty as f
 use Rattle.dcel_triangulations.specs.declared.held.Held.{Held}

@@ -36,7 +36,8 @@ use types.ByLocal.{alloc_all, pass_all, free_all, look_at, get, get_in, sets, la
 use types.Kit.{‵, raw, prop, some, later, at_ret, ◌⊛◌, ◌$◌, ◌∵◌, !, qed, await, done, drop, feq_i, fjoin, fsplit, join, keep, move, pick, regoal, split, suffices, use0, use1}
 use types.Run.{stop, fld, no_more, and_then, of_opd, first, blocks, exec, enter, returns}
 use Rattle.std.proofs.VecSteps.Shapes.{after}
-use Rattle.dcel_triangulations.proofs.Kept.{field_in, boxes, opens_held, ends_with, knows_word}
+use Rattle.dcel_exports.proofs.Steps.{field_in, ends_with}
+use Rattle.dcel_triangulations.proofs.Kept.{boxes, opens_held, knows_word}
 use Rattle.dcel_triangulations.proofs.Payload.{points_laws}
 use Rattle.dcel_triangulations.specs.Held.{points_row}
 use Rattle.dcel_triangulations.specs.contracts.held.Held.{the_row as H}

@@ -27,7 +27,8 @@ use types.Part.{look_in}
 use types.Run.{stop, fld, load, of_opd, addr, first, blocks, exec, enter, returns}
 use Rattle.lent_heap.proofs.Values.{one_val}
 use Rattle.lent_heap.specs.Blocks.{block_token}
-use Rattle.mesh_page.proofs.Holding.{desk_type, field_in, opens_held, closes_held}
+use Rattle.dcel_exports.proofs.Steps.{field_in}
+use Rattle.mesh_page.proofs.Holding.{desk_type, opens_held, closes_held}
 use Rattle.mesh_page.specs.Held.{State, desk_row}
 use Rattle.mesh_page.specs.Lending.{with_desk}
 use Rattle.mesh_page.specs.contracts.held.Held.{the_row as H}

@@ -29,7 +29,7 @@ use types.Logic.{Logic, sem}
 use types.Part.{look_in}
 use types.Run.{stop, fld, load, of_opd, addr, first, blocks, exec, enter, returns}
 use Rattle.dcel_triangulations.proofs.ConstrainedKept.{boxes, opens_held, closes_held}
-use Rattle.dcel_triangulations.proofs.Kept.{field_in}
+use Rattle.dcel_exports.proofs.Steps.{field_in}
 use Rattle.dcel_triangulations.specs.constrained.Held.{State, constrained_row}
 use Rattle.dcel_triangulations.specs.constrained.Lending.{with_points}
 use Rattle.dcel_triangulations.specs.contracts.constrained.held.Held.{the_row as H}

@@ -23,7 +23,7 @@ use types.Kit.{‵, raw, prop, ◌⊛◌, ◌$◌, ◌∵◌, !, qed, done, drop
 use types.Part.{agg}
 use types.Run.{no_more, and_then, lit, enter, returns}
 use Rattle.dcel_triangulations.proofs.ConstrainedKept.{boxes}
-use Rattle.dcel_triangulations.proofs.Kept.{ends_with}
+use Rattle.dcel_exports.proofs.Steps.{ends_with}
 use Rattle.dcel_triangulations.specs.contracts.constrained.held.Held.{the_row as H, the_type}
 use Rattle.dcel_triangulations.specs.contracts.constrained.held.Held.empty as f
 use Rattle.dcel_triangulations.specs.declared.constrained.held.Held.{Held}

@@ -15,9 +15,9 @@ use types.Kit.{‵, raw, prop, ◌⊛◌, ◌$◌, ◌∵◌, !, qed, drop, done
 use types.Part.{agg}
 use types.Run.{stop, fld, no_more, and_then, of_opd, enter, returns}
 use Rattle.dcel_triangulations.proofs.ConstrainedKept.{boxes, box_of, closes_held}
-use Rattle.dcel_triangulations.proofs.Kept.{field_in, ends_with}
+use Rattle.dcel_exports.proofs.Steps.{field_in, ends_with}
 use Rattle.dcel_triangulations.specs.constrained.Held.{constrained_row}
-use Rattle.dcel_triangulations.specs.contracts.held.opened.Opened.{the_row as Opened}
+use Rattle.dcel_exports.specs.contracts.boxes.Opened.{the_row as Opened}
 use Rattle.dcel_triangulations.specs.contracts.constrained.held.Held.{the_row as H}
 use Rattle.dcel_triangulations.specs.contracts.constrained.held.Held.full as f
 use Rattle.dcel_triangulations.specs.declared.constrained.held.Held.{Held}

@@ -37,7 +37,7 @@ use types.Kit.{‵, raw, prop, some, later, at_ret, ◌⊛◌, ◌$◌, ◌∵�
 use types.Run.{stop, fld, no_more, and_then, of_opd, first, blocks, exec, enter, returns}
 use Rattle.std.proofs.VecSteps.Shapes.{after}
 use Rattle.dcel_triangulations.proofs.ConstrainedKept.{boxes, opens_held, knows_word}
-use Rattle.dcel_triangulations.proofs.Kept.{field_in, ends_with}
+use Rattle.dcel_exports.proofs.Steps.{field_in, ends_with}
 use Rattle.dcel_triangulations.proofs.ConstrainedPayload.{constrained_laws}
 use Rattle.dcel_triangulations.specs.constrained.Held.{constrained_row}
 use Rattle.dcel_triangulations.specs.contracts.constrained.held.Held.{the_row as H}
