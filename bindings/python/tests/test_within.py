@@ -7,6 +7,7 @@ import itertools
 import random
 import signal
 import sys
+import time
 import unittest
 from collections.abc import Callable, Iterator
 from typing import Any
@@ -147,7 +148,7 @@ class Within(unittest.TestCase):
 
     def test_timer(self) -> None:
         """What a timer's handler reads, whenever that is, leaves no list that is wrong."""
-        made, refused, chance = plain(), 0, random.Random(5)
+        made, refused, chance, took = plain(), 0, random.Random(5), 4e-4
 
         def read(number: int, frame: object) -> None:
             nonlocal refused
@@ -160,9 +161,12 @@ class Within(unittest.TestCase):
         try:
             for turn in range(400):
                 points = [(chance.randrange(9999), turn) for _ in range(50)]
-                signal.setitimer(signal.ITIMER_REAL, chance.uniform(1e-6, 4e-4))
+                begun = time.perf_counter()
+                signal.setitimer(signal.ITIMER_REAL, chance.uniform(1e-6, took))
                 made.insert(points)
                 signal.setitimer(signal.ITIMER_REAL, 0)
+                # As long as an insertion takes here, so that some timers end in the midst of one.
+                took = max(4e-4, time.perf_counter() - begun)
                 self.assertEqual(made.nsimplex, len(made.simplices))
                 if turn % 10 == 9:
                     self.assertEqual(lists(made), lists(made.copy()))
